@@ -1,1 +1,2 @@
+pub mod Addition
 pub mod Sums
