@@ -1,3 +1,4 @@
+pub mod Between
 pub mod Entries
 pub mod Every
 pub mod Laws

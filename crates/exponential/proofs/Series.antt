@@ -33,20 +33,22 @@ module _ (β r a b d : ℕ) (h : Rounded β r a b d) where
   -- d is at most the alternating sum,
   not-above : 6 * (β * β * β) * d + even β r ≤ odd β r + 24 * (β * β * β * β)
   not-above =
-      omega
-      (arith,
-      mul-le-mul-left (3 * (β * β)) (h .outer-low),
-      mul-le-mul-left (3 * (β * r)) (h .middle-low),
-      mul-le-mul-left (r * r) (h .inner-low))
+      omega (
+        arith,
+        mul-le-mul-left (3 * (β * β)) (h .outer-low),
+        mul-le-mul-left (3 * (β * r)) (h .middle-low),
+        mul-le-mul-left (r * r) (h .inner-low),
+      )
 
   -- and nearly as large.
   nearly : odd β r + 24 * (β * β * β * β) ≤ 6 * (β * β * β) * d + even β r + 6 * (β * β * β) + 3 * (β * β * r) + 3 * (β * r * r)
   nearly =
-      omega
-      (arith,
-      mul-le-mul-left (3 * (β * β)) (h .outer-high),
-      mul-le-mul-left (3 * (β * r)) (h .middle-high),
-      mul-le-mul-left (r * r) (h .inner-high))
+      omega (
+        arith,
+        mul-le-mul-left (3 * (β * β)) (h .outer-high),
+        mul-le-mul-left (3 * (β * r)) (h .middle-high),
+        mul-le-mul-left (r * r) (h .inner-high),
+      )
 
 -- small powers as products
 p1 : (r : ℕ) → r ^ 1 ≡ r
@@ -93,14 +95,15 @@ pub above-remainder : (β r a b d e : ℕ) → 0 < β → e + d ≡ 4 * β → R
 above-remainder β r a b d e pos sum h = record {
   order = 4;
   reached =
-    rw (sum-of-4 β r, den-of-4 β)
-    (omega
-    (arith,
-    difference-above (6 * (β * β * β)) e (even β r) (odd β r) (96 * (β * β * β * β * β))
-    (8 * (β * β * r * r * r * r * r * r) + r * r * r * r * r * r * r * r)
-    (mul-pos (omega arith) (mul-pos (mul-pos pos pos) pos))
-    (omega (arith, not-above β r a b d h, ap (λ (t : ℕ). 6 * (β * β * β) * t) sum))
-    (squares β r)));
+      rw (sum-of-4 β r, den-of-4 β)
+      (omega (
+        arith,
+        difference-above (6 * (β * β * β)) e (even β r) (odd β r) (96 * (β * β * β * β * β))
+            (8 * (β * β * r * r * r * r * r * r) + r * r * r * r * r * r * r * r)
+            (mul-pos (omega arith) (mul-pos (mul-pos pos pos) pos))
+            (omega (arith, not-above β r a b d h, ap (λ (t : ℕ). 6 * (β * β * β) * t) sum))
+            (squares β r),
+      ));
 }
 
 difference-below : (p v C S q R g : ℕ) → p * v + S + g ≤ C → C * C ≡ S * S + p * q + R → p * v * (C + S) + g * (C + S) ≤ p * q + R
@@ -119,22 +122,24 @@ pub record Small (β r : ℕ) : Type 0 where
 module _ (β r a b d v : ℕ) (pos : 0 < β) (sum : v + 14 + d ≡ 4 * β) (h : Rounded β r a b d) (small : Small β r) where
   margin : 6 * (β * β * β) * v + odd β r + 77 * (β * β * β) ≤ even β r
   margin =
-      omega
-      (arith,
-      nearly β r a b d h,
-      ap (λ (t : ℕ). 6 * (β * β * β) * t) sum,
-      mul-le-mul-left (β * β) (small .first),
-      mul-le-mul-left (β * r) (small .first))
+      omega (
+        arith,
+        nearly β r a b d h,
+        ap (λ (t : ℕ). 6 * (β * β * β) * t) sum,
+        mul-le-mul-left (β * β) (small .first),
+        mul-le-mul-left (β * r) (small .first),
+      )
 
   rest : 30 * (β * β) * (8 * (β * β * r * r * r * r * r * r) + r * r * r * r * r * r * r * r) +
-        24 * (β * β * β * β) * (6 * (β * r * r * r * r * r) + 2 * (r * r * r * r * r * r)) ≤
+      24 * (β * β * β * β) * (6 * (β * r * r * r * r * r) + 2 * (r * r * r * r * r * r)) ≤
       30 * (β * β) * (77 * (β * β * β)) * (24 * (β * β * β * β))
   rest =
-      omega
-      (arith,
-      mul-le-mul-left (β * β * β * β * β) (small .fifth),
-      mul-le-mul-left (β * β * β * β) (small .sixth),
-      mul-le-mul-left (β * β) (small .eighth))
+      omega (
+        arith,
+        mul-le-mul-left (β * β * β * β * β) (small .fifth),
+        mul-le-mul-left (β * β * β * β) (small .sixth),
+        mul-le-mul-left (β * β) (small .eighth),
+      )
 
   -- 1 - d less 14 units is at or below exp(-x).
   pub below-remainder : Below v (4 * β) r β
