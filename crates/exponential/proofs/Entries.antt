@@ -1,4 +1,4 @@
--- The table's rule: a test at order 46, the smallest that decides every entry, computed over the whole table, and carried to each entry.
+-- The table's rule: a test at one order, computed over the whole table, and carried to each entry.
 -- Assumes nothing.
 use Prim.Native.Nat.{ℕ, suc, _+_, _*_, _-_, _^_, _≤_, _<_}
 use mathlib.Core.Path.{_≡_, refl}
@@ -9,11 +9,11 @@ use native.Mathlib.Nat.{le-of-lt, lt-of-le-of-lt, lt-of-mul-lt-mul-right, mul-le
 use native.Mathlib.Omega.{arith}
 use Rattle.exact.proofs.Enclosure.{below-tail}
 use Rattle.exact.proofs.Sums.{num, den, tailed, tail}
-use Rattle.exponential.specs.Table.{entries, entry, Least, Rule}
+use Rattle.exponential.specs.Table.{entries, entry, testOrder, Least, Rule}
 use Rattle.exponential.proofs.Every.{both, both-left, both-right, every, at}
 
 test : ℕ → ℕ → Bool
-test k t = both (leb (2 ^ 40 * den 64 46) (t * num k 64 46)) (ltb ((t - 1) * tailed k 64 46) (2 ^ 40 * den 64 47))
+test k t = both (leb (2 ^ 40 * den 64 testOrder) (t * num k 64 testOrder)) (ltb ((t - 1) * tailed k 64 testOrder) (2 ^ 40 * den 64 (suc testOrder)))
 
 tested : T (every test 0 entries)
 unfolding test entries num den tailed
@@ -25,22 +25,22 @@ size = refl
 
 -- what the test says at one entry
 tested-at : (k : ℕ) → k ≤ 1536 →
-    (2 ^ 40 * den 64 46 ≤ entry k * num k 64 46) × ((entry k - 1) * tailed k 64 46 < 2 ^ 40 * den 64 47)
+    (2 ^ 40 * den 64 testOrder ≤ entry k * num k 64 testOrder) × ((entry k - 1) * tailed k 64 testOrder < 2 ^ 40 * den 64 (suc testOrder))
 unfolding test
 tested-at k h =
     let t : T (test k (entry k)) = at test entries tested k (omega (arith, size)) in
-    let high : Bool = leb (2 ^ 40 * den 64 46) (entry k * num k 64 46) in
-    let low : Bool = ltb ((entry k - 1) * tailed k 64 46) (2 ^ 40 * den 64 47) in (
-      leb→le (2 ^ 40 * den 64 46) (entry k * num k 64 46) (both-left high low t),
-      ltb→lt ((entry k - 1) * tailed k 64 46) (2 ^ 40 * den 64 47) (both-right high low t),
+    let high : Bool = leb (2 ^ 40 * den 64 testOrder) (entry k * num k 64 testOrder) in
+    let low : Bool = ltb ((entry k - 1) * tailed k 64 testOrder) (2 ^ 40 * den 64 (suc testOrder)) in (
+      leb→le (2 ^ 40 * den 64 testOrder) (entry k * num k 64 testOrder) (both-left high low t),
+      ltb→lt ((entry k - 1) * tailed k 64 testOrder) (2 ^ 40 * den 64 (suc testOrder)) (both-right high low t),
     )
 
 pub rule : Rule
 rule = record {
   at = λ k h. record {
-    above = record { order = 46; reached = tested-at k h .0 };
-    below = below-tail 46 (omega arith) (omega arith) (le-of-lt (tested-at k h .1));
-    order = 46;
+    above = record { order = testOrder; reached = tested-at k h .0 };
+    below = below-tail testOrder (omega arith) (omega arith) (le-of-lt (tested-at k h .1));
+    order = testOrder;
     allowed = omega arith;
     outside = tested-at k h .1;
   };

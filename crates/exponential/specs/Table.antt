@@ -207,13 +207,17 @@ abbrev pub entry : ℕ → ℕ
 entry k = getD entries k 0
 
 -- t is the least whole number not below g × exp(-a/d): t / g is at or above exp(-a/d) and (t - 1) / g at or below it,
--- and at one order allowed (t - 1) / g lies below the whole bracket.
+-- and at one allowed order (t - 1) / g lies below the whole bracket.
 pub record Least (t g a d : ℕ) : Type 0 where
   pub above : Above t g a d
   pub below : Below (t - 1) g a d
   pub order : ℕ
   pub allowed : 2 * a ≤ (order + 2) * d
   pub outside : (t - 1) * tailed a d order < g * den d (suc order)
+
+-- The order at which the rule is tested: the smallest that decides every entry.
+abbrev pub testOrder : ℕ
+testOrder = 46
 
 -- the table's rule
 pub record Rule : Type 0 where

@@ -13,6 +13,7 @@ pub fn table() -> [u64; 1537]
     values::TABLE
 }
 
+// x/3 (1 - x/4), rounded down; x and the result in units of 2^-40.
 fn innermost_part(x: u64) -> u64
     requires { ⌜ x < 2 ^ 34 ⌝ }
     ensures { λ r. ⌜ r ≡ innermost x ⌝ }
@@ -20,6 +21,7 @@ fn innermost_part(x: u64) -> u64
     fixed_point::scaled_product(x, 1099511627776 - x / 4) / 3
 }
 
+// x (1 - x/3 (1 - x/4)), rounded up.
 fn middle_part(x: u64) -> u64
     requires { ⌜ x < 2 ^ 34 ⌝ }
     ensures { λ r. ⌜ r ≡ middle x ⌝ }
@@ -27,7 +29,7 @@ fn middle_part(x: u64) -> u64
     x - fixed_point::scaled_product(x, innermost_part(x))
 }
 
-// 1 - exp(-x), rounded down, for x below one 64th.
+// x (1 - x/2 (1 - x/3 (1 - x/4))), rounded down: 1 - exp(-x) for x below one 64th.
 fn decrease_of(x: u64) -> u64
     requires { ⌜ x < 2 ^ 34 ⌝ }
     ensures { λ r. ⌜ r ≡ decrease x ⌝ }
@@ -35,6 +37,7 @@ fn decrease_of(x: u64) -> u64
     fixed_point::scaled_product(x, 2199023255552 - middle_part(x)) / 2
 }
 
+// t (1 - d), rounded up.
 fn lower(t: u64, d: u64) -> u64
     requires { ⌜ (t ≤ 2 ^ 40) × (d ≤ 2 ^ 40) ⌝ }
     ensures { λ r. ⌜ r ≡ lowered t d ⌝ }

@@ -1,7 +1,8 @@
 -- `exponential::exp_upper` meets its contract: the tests lead to the two cases of the definition. Assumes nothing.
-use Prim.Native.Nat.{_/_, _*_, _%_}
+use Prim.Native.Nat.{_/_}
 use mathlib.Core.Path.{refl}
 use borrow.Author.Needs.{needs}
+use native.Mathlib.Nat.{le-trans}
 use native.Mathlib.Omega.{arith}
 use Rattle.exponential.proofs.Entries.{entry-bounded}
 use Rattle.exponential.proofs.Steps.{decrease-most, beyond, between}
@@ -30,7 +31,7 @@ lower-requires : tie.Need-lower-requires
 lower-requires c κs =
     let y = c .before .before .before .args .y in (
       rw (c .before .before .before .pre) (entry-bounded (y / 4294967296) (omega arith)),
-      omega (arith, decrease-most (4 * (y % 4294967296))),
+      rw (c .decrease-of .ensures) (le-trans (decrease-most _) (omega arith)),
     )
 
 returns-2 : tie.Need-returns-2
