@@ -4,7 +4,7 @@
 -- Assumes nothing.
 use Prim.Native.Nat.{ℕ, zero, suc, _+_, _*_, _-_, _^_, _≤_, _<_}
 use mathlib.Core.Path.{_≡_, refl, ap, ap₂, _∙_}
-use native.Mathlib.Nat.{add-suc, add-zero, zero-add, suc-add, pow-zero, pow-suc, mul-pos, mul-le-mul, mul-le-mul-left, mul-le-mul-right, le-refl, le-of-mul-le-mul-left}
+use native.Mathlib.Nat.{add-suc, add-zero, zero-add, suc-add, pow-zero, pow-suc, mul-pos, mul-le-mul-left, mul-le-mul-right, le-refl, le-of-mul-le-mul-left}
 use native.Mathlib.Omega.{arith}
 use Rattle.exact.proofs.Sums.{num, den, den-suc, num-suc}
 

@@ -1,9 +1,9 @@
 -- The value between two entries: at or above exp(-y), and by at most 16 units.
 -- Assumes nothing.
-use Prim.Native.Nat.{ℕ, _+_, _*_, _-_, _/_, _%_, _^_, _≤_, _<_}
+use Prim.Native.Nat.{ℕ, _+_, _*_, _-_, _/_, _^_, _≤_, _<_}
 use mathlib.Core.Path.{_≡_, refl, ap}
 use lib.Dec.{lit≤}
-use native.Mathlib.Nat.{mul-le-mul, mul-le-mul-right, le-trans, le-of-lt}
+use native.Mathlib.Nat.{mul-le-mul, mul-le-mul-right, le-trans, le-of-lt, div-mul-le-self, lt-div-mul-add}
 use native.Mathlib.Omega.{arith}
 use Rattle.exact.proofs.Enclosure.{Above, Below, above-product, above-exponent, above-value, below-product, below-exponent, below-value}
 use Rattle.exponential.specs.Exponential.{innermost, middle, decrease, lowered}
@@ -12,28 +12,25 @@ use Rattle.exponential.proofs.Series.{Rounded, Small, above-remainder, 
 use Rattle.exponential.proofs.Steps.{product-most, innermost-most, middle-most, decrease-most}
 
 module _ (r : ℕ) (h : r < 2 ^ 32) where
-  innermost-is : innermost (4 * r) ≡ 4 * r * (2 ^ 40 - r) / 2 ^ 40 / 3
-  unfolding innermost
-  innermost-is = ap (λ (t : ℕ). 4 * r * (2 ^ 40 - t) / 2 ^ 40 / 3) (omega arith)
-
-  inner : (w : ℕ) → w + r ≡ 2 ^ 40 → (a : ℕ) → a ≡ 4 * r * w / 2 ^ 40 / 3 →
-      (3 * 2 ^ 38 * a + r * r ≤ 4 * 2 ^ 38 * r) × (4 * 2 ^ 38 * r ≤ r * r + 3 * 2 ^ 38 * (a + 1))
-  inner w e a f = let g : r * (w + r) ≡ r * 2 ^ 40 = ap (λ (t : ℕ). r * t) e in (omega arith, omega arith)
+  -- d is r (j - c)/k, rounded down.
+  step : (k j c w d : ℕ) → 0 < k → d ≡ 4 * r * w / 2 ^ 40 / k → w + c ≡ j * 2 ^ 40 →
+      (k * 2 ^ 38 * d + r * c ≤ 4 * j * 2 ^ 38 * r) × (4 * j * 2 ^ 38 * r ≤ r * c + k * 2 ^ 38 * (d + 1))
+  step k j c w d pos f e =
+      let q : ℕ = 4 * r * w / 2 ^ 40 in
+      let g : r * (w + c) ≡ r * (j * 2 ^ 40) = ap (λ (t : ℕ). r * t) e in
+      let i : d * k ≡ q / k * k = ap (λ (t : ℕ). t * k) f in
+      (omega (arith, div-mul-le-self q k), omega (arith, lt-div-mul-add {a = q} pos))
 
   middles : (a b : ℕ) → a ≤ 2 ^ 40 → b ≡ 4 * r - 4 * r * a / 2 ^ 40 →
       (4 * 2 ^ 38 * r ≤ 2 ^ 38 * b + r * a) × (2 ^ 38 * b + r * a ≤ 4 * 2 ^ 38 * r + 2 ^ 38)
   middles a b most f = let g : 4 * r * a / 2 ^ 40 ≤ 1 * (4 * r) = product-most 1 (4 * r) a (omega arith) in (omega arith, omega arith)
 
-  outer : (b w : ℕ) → w + b ≡ 2 * 2 ^ 40 → (d : ℕ) → d ≡ 4 * r * w / 2 ^ 40 / 2 →
-      (2 * 2 ^ 38 * d + r * b ≤ 8 * 2 ^ 38 * r) × (8 * 2 ^ 38 * r ≤ r * b + 2 * 2 ^ 38 * (d + 1))
-  outer b w e d f = let g : r * (w + b) ≡ r * (2 * 2 ^ 40) = ap (λ (t : ℕ). r * t) e in (omega arith, omega arith)
-
   rounded : Rounded (2 ^ 38) r (innermost (4 * r)) (middle (4 * r)) (decrease (4 * r))
-  unfolding middle decrease
+  unfolding innermost middle decrease
   rounded =
-      let i = inner (2 ^ 40 - r) (omega arith) (innermost (4 * r)) innermost-is in
+      let i = step 3 1 r _ (innermost (4 * r)) (lit≤ tt) refl (omega arith) in
       let m = middles (innermost (4 * r)) (middle (4 * r)) (omega (arith, innermost-most (4 * r))) refl in
-      let o = outer (middle (4 * r)) (2 * 2 ^ 40 - middle (4 * r)) (omega (arith, middle-most (4 * r))) (decrease (4 * r)) refl in
+      let o = step 2 2 (middle (4 * r)) _ (decrease (4 * r)) (lit≤ tt) refl (omega (arith, middle-most (4 * r))) in
       record {
         inner-low = i .0;
         inner-high = i .1;

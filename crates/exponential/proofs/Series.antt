@@ -1,9 +1,9 @@
 -- Between two entries: x (1 - x/2 (1 - x/3 (1 - x/4))), rounded down, is nearly 1 - exp(-x), and never above it.
 -- x is r / β; every law is over a variable β, in units of which the numbers here are at most 4 β.
 -- Assumes nothing.
-use Prim.Native.Nat.{ℕ, suc, _+_, _*_, _-_, _^_, _≤_, _<_}
-use mathlib.Core.Path.{_≡_, refl, ap, _∙_}
-use native.Mathlib.Nat.{pow-zero, pow-suc, mul-pos, mul-le-mul-left, mul-le-mul-right, le-of-mul-le-mul-left, le-trans, le-of-eq}
+use Prim.Native.Nat.{ℕ, _+_, _*_, _^_, _≤_, _<_}
+use mathlib.Core.Path.{_≡_, ap, _∙_}
+use native.Mathlib.Nat.{pow-zero, pow-suc, mul-pos, mul-le-mul-left, mul-le-mul-right, le-of-mul-le-mul-left, le-trans}
 use native.Mathlib.Omega.{arith}
 use Rattle.exact.proofs.Enclosure.{Above, Below, below-tail}
 use Rattle.exact.proofs.Sums.{num, den, tailed}

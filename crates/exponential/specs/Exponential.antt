@@ -1,5 +1,5 @@
 -- exp(-y) in fixed point, never below it: from the table and, between two entries, the first terms of the alternating series.
-use Prim.Native.Nat.{ℕ, _+_, _*_, _-_, _/_, _%_, _^_}
+use Prim.Native.Nat.{ℕ, _*_, _-_, _/_, _%_, _^_}
 use mathlib.Core.Bool.{true, false}
 use lib.Dec.{leb}
 use Rattle.fixed_point.specs.Quotient.{scaledProduct}
