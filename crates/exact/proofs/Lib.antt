@@ -1,1 +1,3 @@
+pub mod Bridge
 pub mod Fractions
+pub mod Sums
