@@ -1,12 +1,12 @@
 -- Laws of the signed fractions: they are numbers, whatever way they are written.
 -- Assumes nothing.
 use mathlib.Core.Path.{_≡_, refl, sym, _∙_, ap, ap₂}
-use Prim.Native.Nat.{ℕ, _+_, _-_, _*_, _≤_, _<_, max, min, zero-le}
+use Prim.Native.Nat.{ℕ, _+_, _*_, _≤_, _<_}
 use native.Mathlib.Decide.{decLe}
 use mathlib.Core.Logic.{⊎-elim, _⊎_, inl, inr}
 use native.Mathlib.Nat.{le-dest, le-of-lt, lt-of-not-le, max-eq-left, max-eq-right, min-eq-left, min-eq-right, sub-add-cancel, mul-le-mul-left, mul-lt-mul-of-pos-left, mul-pos, le-of-mul-le-mul-left, lt-of-mul-lt-mul-left, eq-of-mul-eq-mul-left, le-of-eq, le-antisymm, add-le-add, add-lt-add-of-lt-of-le}
 use native.Mathlib.Omega.{arith}
-use Rattle.exact.specs.Fraction.{Fraction, Proper, quotient, whole, negated, _⊕_, _⊖_, _⊗_, _≼_, _≺_, _≈_, larger, smaller, reciprocal}
+use Rattle.exact.specs.Fraction.{Fraction, Proper, quotient, negated, _⊕_, _⊗_, _≼_, _≺_, _≈_, larger, smaller, reciprocal}
 
 -- Proper
 

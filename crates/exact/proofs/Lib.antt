@@ -1,3 +1,5 @@
 pub mod Bridge
+pub mod Examples
 pub mod Fractions
+pub mod Quantities
 pub mod Sums
