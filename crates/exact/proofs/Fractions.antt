@@ -67,6 +67,27 @@ same-product-left {x} {x′} y h =
       crossed = omega (arith, ap (λ (t : ℕ). y .over * y .plus * t) (h .crossed), ap (λ (t : ℕ). y .over * y .minus * t) (h .crossed));
     }
 
+-- equal in each part
+pub same-of-parts : {x y : Fraction} → x .plus ≡ y .plus → x .minus ≡ y .minus → x .over ≡ y .over → x ≈ y
+same-of-parts p m o = record { crossed = omega (arith, ap₂ _*_ p (sym o), ap₂ _*_ m (sym o)) }
+
+-- each part k times
+pub same-of-multiple : {x y : Fraction} (k : ℕ) → y .plus ≡ k * x .plus → y .minus ≡ k * x .minus → y .over ≡ k * x .over → x ≈ y
+same-of-multiple {x} {y} k p m o =
+    record { crossed = omega (arith, ap (λ (t : ℕ). x .plus * t) o, ap (λ (t : ℕ). t * x .over) m, ap (λ (t : ℕ). t * x .over) p, ap (λ (t : ℕ). x .minus * t) o) }
+
+pub product-sum : (x y f : Fraction) → (x ⊕ y) ⊗ f ≈ x ⊗ f ⊕ y ⊗ f
+product-sum x y f = same-of-multiple (f .over) (omega arith) (omega arith) (omega arith)
+
+pub product-assoc : (x y z : Fraction) → x ⊗ y ⊗ z ≈ x ⊗ (y ⊗ z)
+product-assoc x y z = same-of-parts (omega arith) (omega arith) (omega arith)
+
+pub sum-comm : (x y : Fraction) → x ⊕ y ≈ y ⊕ x
+sum-comm x y = same-of-parts (omega arith) (omega arith) (omega arith)
+
+pub sum-assoc : (x y z : Fraction) → x ⊕ y ⊕ z ≈ x ⊕ (y ⊕ z)
+sum-assoc x y z = same-of-parts (omega arith) (omega arith) (omega arith)
+
 pub product-comm : (x y : Fraction) → x ⊗ y ≈ y ⊗ x
 product-comm x y = record { crossed = omega arith }
 
@@ -82,6 +103,9 @@ at-most-refl x = record { crossed = omega arith }
 
 pub at-most-of-same : {x y : Fraction} → x ≈ y → x ≼ y
 at-most-of-same h = record { crossed = le-of-eq (h .crossed) }
+
+pub at-most-of-below : {x y : Fraction} → x ≺ y → x ≼ y
+at-most-of-below h = record { crossed = le-of-lt (h .crossed) }
 
 pub at-most-trans : {x y z : Fraction} → Proper y → x ≼ y → y ≼ z → x ≼ z
 at-most-trans {x} {y} {z} p h k =

@@ -3,3 +3,4 @@ pub mod Examples
 pub mod Fractions
 pub mod Quantities
 pub mod Sums
+pub mod Within
