@@ -1,4 +1,6 @@
+pub mod Addition
 pub mod Bridge
+pub mod Enclosure
 pub mod Examples
 pub mod Fractions
 pub mod Quantities

@@ -1,1 +1,4 @@
+pub mod Entries
+pub mod Every
 pub mod Laws
+pub mod Steps
