@@ -4,7 +4,7 @@ use mathlib.Core.Path.{_≡_, refl, sym, _∙_, ap, ap₂}
 use Prim.Native.Nat.{ℕ, _+_, _*_, _≤_, _<_}
 use native.Mathlib.Decide.{decLe}
 use mathlib.Core.Logic.{⊎-elim, _⊎_, inl, inr}
-use native.Mathlib.Nat.{le-dest, le-of-lt, lt-of-not-le, max-eq-left, max-eq-right, min-eq-left, min-eq-right, sub-add-cancel, mul-le-mul-left, mul-lt-mul-of-pos-left, mul-pos, le-of-mul-le-mul-left, lt-of-mul-lt-mul-left, eq-of-mul-eq-mul-left, le-of-eq, le-antisymm, add-le-add, add-lt-add-of-lt-of-le}
+use native.Mathlib.Nat.{le-dest, le-of-lt, lt-of-not-le, max-eq-left, max-eq-right, min-eq-left, min-eq-right, sub-add-cancel, mul-le-mul-left, mul-le-mul-right, mul-lt-mul-of-pos-left, mul-pos, le-of-mul-le-mul-left, lt-of-mul-lt-mul-left, eq-of-mul-eq-mul-left, le-of-eq, le-antisymm, add-le-add, add-lt-add-of-lt-of-le}
 use native.Mathlib.Omega.{arith}
 use Rattle.exact.specs.Fraction.{Fraction, Proper, quotient, negated, _⊕_, _⊗_, _≼_, _≺_, _≈_, larger, smaller, reciprocal}
 
@@ -234,3 +234,11 @@ nonnegative-same {x} {y} p q h n =
 pub positive-same : {x y : Fraction} → Proper x → Proper y → x ≈ y → Positive x → Positive y
 positive-same {x} {y} p q h n =
     record { above = lt-of-mul-lt-mul-left (x .over) (omega (arith, mul-lt-mul-of-pos-left (n .above) (q .positive), h .crossed)) }
+
+pub nonnegative-sum : {x y : Fraction} → Nonnegative x → Nonnegative y → Nonnegative (x ⊕ y)
+nonnegative-sum {x} {y} h k = record { above = add-le-add (mul-le-mul-right (y .over) (h .above)) (mul-le-mul-right (x .over) (k .above)) }
+
+pub nonnegative-product : {x y : Fraction} → Nonnegative x → Nonnegative y → Nonnegative (x ⊗ y)
+nonnegative-product {x} {y} h k =
+    let (d, e) = le-dest (k .above) in
+    record { above = omega (arith, mul-le-mul-left d (h .above), ap (λ (t : ℕ). x .plus * t) e, ap (λ (t : ℕ). x .minus * t) e) }

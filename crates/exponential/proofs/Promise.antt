@@ -51,16 +51,16 @@ least-of : (t g a d : ℕ) → 0 < d → Least t g a d → LeastNotBelow (multip
 least-of t g a d h l =
     record {
       not-below = takes (multiple g (quotient a d)) (λ v. v ≼ whole t) (exponents a d h)
-        (record {
-          from = l .above .order;
-          holds = λ m le. (
-            Fractions.proper-product (record { positive = omega arith }) (high-proper (at-quotient a d h) m),
-            Fractions.at-most-trans (Fractions.proper-quotient (g * den d m) (num-pos a d h m)) (Fractions.at-most-of-same (value-is g a d m h)) (record { crossed = omega (arith, above-from h (l .above) m le) }),
-          );
-        });
+          (record {
+            from = l .above .order;
+            holds = λ m le. (
+              Fractions.proper-product (record { positive = omega arith }) (high-proper (at-quotient a d h) m),
+              Fractions.at-most-trans (Fractions.proper-quotient (g * den d m) (num-pos a d h m)) (Fractions.at-most-of-same (value-is g a d m h)) (record { crossed = omega (arith, above-from h (l .above) m le) }),
+            );
+          });
       least = λ s b.
-        let (x, good, proper, at-most) = b .at-order (l .order) (record { each = λ y k. only y k (λ z. Allowed (l .order) z) (allowed-of (at-quotient a d h) (l .order) (l .allowed)) }) in
-        reaches s t g a d (l .order) h (x (quotient a d)) (good .inside (quotient a d) (List·Memᴰ·head refl)) at-most (l .outside);
+          let (x, good, proper, at-most) = b .at-order (l .order) (record { each = λ y k. only y k (λ z. Allowed (l .order) z) (allowed-of (at-quotient a d h) (l .order) (l .allowed)) }) in
+          reaches s t g a d (l .order) h (x (quotient a d)) (good .inside (quotient a d) (List·Memᴰ·head refl)) at-most (l .outside);
     }
 
 pub table-rule : TableRule
