@@ -1,3 +1,5 @@
+pub mod Choice
+pub mod Examples
 pub mod Exponential
 pub mod Fraction
 pub mod Quantity
