@@ -7,7 +7,7 @@ use native.Mathlib.Nat.{mul-le-mul, mul-le-mul-right, le-trans, le-of-lt, div-mu
 use native.Mathlib.Omega.{arith}
 use Rattle.exact.proofs.Enclosure.{Above, Below, above-product, above-exponent, above-value, below-product, below-exponent, below-value}
 use Rattle.exponential.specs.Exponential.{innermost, middle, decrease, lowered}
-use Rattle.exponential.specs.Table.{Least}
+use Rattle.exponential.proofs.Rule.{Least}
 use Rattle.exponential.proofs.Series.{Rounded, Small, above-remainder, below-remainder}
 use Rattle.exponential.proofs.Steps.{product-most, innermost-most, middle-most, decrease-most}
 

@@ -1,20 +1,24 @@
 -- The table's rule in the words of document 01. Assumes nothing.
 use Prim.Native.Nat.{ℕ, suc, _+_, _*_, _-_, _^_, _≤_, _<_}
-use mathlib.Core.Path.{_≡_, refl, sym, _∙_, ap}
-use mathlib.Core.List.{List, [], _∷_, List·Memᴰ, List·Memᴰ·head, List·Memᴰ·cases-cons, List·Memᴰ·not-nil}
+use mathlib.Core.Path.{_≡_, refl}
+use mathlib.Core.List.{[], _∷_, List·Memᴰ, List·Memᴰ·head, List·Memᴰ·cases-cons, List·Memᴰ·not-nil}
 use mathlib.Core.Logic.{⊎-elim}
-use native.Mathlib.Nat.{lt-of-mul-lt-mul-right, lt-of-lt-of-le, le-of-mul-le-mul-left, mul-le-mul-left}
+use native.Mathlib.Nat.{lt-of-mul-lt-mul-right, lt-of-lt-of-le, le-of-mul-le-mul-left, mul-le-mul-left, mul-le-mul-right}
 use native.Mathlib.Omega.{arith}
 use Rattle.exact.specs.Fraction.{Fraction, Proper, quotient, whole, _⊕_, _⊗_, _≼_, _≈_}
-use Rattle.exact.specs.Exponential.{bracketLow, bracketHigh, Allowed, InBracket}
-use Rattle.exact.specs.Quantity.{Quantity, Assignment, AllowedAll, AtMost, Takes, Exponent, Eventually}
+use Rattle.exact.specs.Exponential.{bracketHigh, Allowed, InBracket}
+use Rattle.exact.specs.Quantity.{Takes, Exponent}
 use Rattle.exact.proofs.Bridge.{At, high-is, high-proper, low-is, low-proper, allowed-of}
 use Rattle.exact.proofs.Fractions
-use Rattle.exact.proofs.Quantities.{Exponents, takes}
-use Rattle.exact.proofs.Sums.{num, den, tailed, num-pos, den-pos}
-use Rattle.exact.proofs.Enclosure.{above-from}
-use Rattle.exponential.specs.Table.{entry, Least, Rule}
-use Rattle.exponential.specs.Promise.{multiple, LeastNotBelow, TableRule}
+use Rattle.exact.proofs.Quantities.{Exponents, takes, some-allowed}
+use Rattle.exact.proofs.Sums.{num, den, tailed, num-pos}
+use Rattle.exact.proofs.Enclosure.{Above, Below, above-from}
+use Rattle.exponential.specs.Table.{entry}
+use Rattle.exponential.proofs.Rule.{Least}
+use Rattle.exponential.specs.Exponential.{expUpper}
+use Rattle.exponential.specs.Promise.{multiple, exponentOf, LeastNotBelow, TableRule, Promise}
+use Rattle.exponential.proofs.Laws
+use lib.Dec.{lit<}
 use Rattle.exponential.proofs.Entries.{rule}
 
 at-quotient : (a d : ℕ) → 0 < d → At (quotient a d) a d
@@ -65,3 +69,32 @@ least-of t g a d h l =
 
 pub table-rule : TableRule
 table-rule = record { at = λ k h. least-of (entry k) (2 ^ 40) k 64 (omega arith) (rule .at k h) }
+
+-- From an enclosure of 2^40 × exp(-y) on both sides: the answer u, and u - w from below
+encloses-of : (y u w : ℕ) → Above u (2 ^ 40) y (2 ^ 38) → Below (u - w) (2 ^ 40) y (2 ^ 38) → Takes (multiple (2 ^ 40) (exponentOf y)) (λ v. (v ≼ whole u) × (whole u ≼ v ⊕ whole w))
+encloses-of y u w above below =
+    takes (multiple (2 ^ 40) (exponentOf y)) (λ v. (v ≼ whole u) × (whole u ≼ v ⊕ whole w)) (exponents y (2 ^ 38) (lit< tt))
+    (record {
+      from = above .order;
+      holds = λ m le.
+          let positive : 0 < 2 ^ 38 = lit< tt in
+          let middle : Proper (quotient (2 ^ 40 * den (2 ^ 38) m) (num y (2 ^ 38) m)) = Fractions.proper-quotient (2 ^ 40 * den (2 ^ 38) m) (num-pos y (2 ^ 38) positive m) in (
+            Fractions.proper-product (record { positive = omega arith }) (high-proper (at-quotient y (2 ^ 38) positive) m),
+            (
+              Fractions.at-most-trans middle (Fractions.at-most-of-same (value-is (2 ^ 40) y (2 ^ 38) m positive)) (record { crossed = omega (arith, above-from positive above m le) }),
+              Fractions.at-most-trans
+                  (Fractions.proper-sum middle (record { positive = omega arith }))
+                  (record { crossed = omega (arith, below .every m, mul-le-mul-right {m = u} {n = u - w + w} (num y (2 ^ 38) m) (omega arith)) })
+                  (Fractions.at-most-sum (Fractions.at-most-of-same (Fractions.same-sym (value-is (2 ^ 40) y (2 ^ 38) m positive))) (Fractions.at-most-refl (whole w))),
+            ),
+          );
+    })
+
+pub promise : Promise
+promise =
+    record {
+      at-entries = Laws.at-entries;
+      between = λ y h. encloses-of y (expUpper y) 16 (Laws.at-or-above y) (Laws.within-16 y h);
+      beyond = λ y h. encloses-of y (expUpper y) 42 (Laws.at-or-above y) (record { every = λ n. rw (Laws.from-24 y h) (omega arith) });
+      orders = λ y. some-allowed (exponentOf y ∷ []) (exponents y (2 ^ 38) (lit< tt));
+    }
