@@ -1,0 +1,10 @@
+pub mod ChargeLaws
+pub mod CoefficientLaws
+pub mod CreditLaws
+pub mod ExactValues
+pub mod Examples
+pub mod Gauss
+pub mod Money
+pub mod Near
+pub mod ScaledValue
+pub mod Sizes

@@ -1,0 +1,36 @@
+-- By the two kinds of score.
+use Rattle.loan_charge.specs.CreditFactor.{creditFactor}
+use borrow.Author.Needs.{needs}
+use Rattle.loan_charge.proofs.credit.credit_factor.Statement.{statement}
+use Rattle.loan_charge.proofs.credit.credit_factor.Tie as tie
+
+enum-known-score : tie.Need-enum-known-score
+enum-known-score c = search needs
+
+scored-factor-requires : tie.Need-scored-factor-requires
+scored-factor-requires c κs = search needs
+
+enum-told : tie.Need-enum-told
+enum-told c = search needs
+
+unscored-factor-requires : tie.Need-unscored-factor-requires
+unscored-factor-requires c κs = search needs
+
+returns : tie.Need-returns
+unfolding creditFactor
+returns c = cc
+
+returns-2 : tie.Need-returns-2
+unfolding creditFactor
+returns-2 c = cc
+
+pub credit-factor-spec : {M : Type 1} → statement M
+credit-factor-spec =
+    tie.close
+    (tie.spec
+    enum-known-score
+    scored-factor-requires
+    enum-told
+    unscored-factor-requires
+    returns
+    returns-2)

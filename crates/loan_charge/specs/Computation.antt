@@ -1,0 +1,120 @@
+-- A loan's two numbers in fixed point, as the code computes them. No other crate unfolds these definitions:
+-- what they promise stands in proofs/ChargeLaws.antt.
+use Prim.Native.Nat.{ℕ, _+_, _*_, _-_, _/_, _^_, _≤_, _<_, min, max}
+use mathlib.Core.Bool.{Bool, true, false}
+use Rattle.fixed_point.specs.Quotient.{scaledProduct}
+use Rattle.exponential.specs.Exponential.{expUpper}
+use Rattle.loan_charge.specs.Coefficients.{firstSet}
+use Rattle.loan_charge.specs.Integers.{scaledA, scaledB, scaledC, tenthsB}
+use Rattle.loan_charge.specs.declared.charge.Heights.{Heights}
+use Rattle.loan_charge.specs.declared.charge.LoanCharge.{LoanCharge}
+use Rattle.fixed_point.specs.declared.Signed.{Signed}
+use Rattle.loan_charge.specs.declared.coefficients.ScaledCurve.{ScaledCurve}
+
+-- the units in which z is carried: so many to 1
+abbrev pub unit : ℕ
+unit = 120000 * 2 ^ 27
+
+-- z = p / q, or 1 if that is less, and no more than 16, rounded down: from 16 on all exponentials are below their error and a is at its limit.
+unfoldable pub scaledValue : ℕ → ℕ → ℕ
+scaledValue p q = min (16 * unit) (unit * max p q / q)
+
+-- the distance of z from a mean in 120000ths, rounded down, in the units of z
+unfoldable pub distance : ℕ → ℕ → ℕ
+distance w mean = w - mean * 2 ^ 27 + (mean * 2 ^ 27 - w - 1)
+
+-- the same in standard deviations, in units of 2^-40
+unfoldable pub deviations : ℕ → ℕ → ℕ → ℕ
+deviations w mean deviation = distance w mean * 8192 / deviation
+
+-- (z - mean)² / (2 deviation²) in units of 2^-38
+unfoldable pub exponent : ℕ → ℕ → ℕ → ℕ
+exponent w mean deviation = scaledProduct (deviations w mean deviation) (deviations w mean deviation) / 8
+
+-- exp(-(z - mean)² / (2 deviation²)), in units of 2^-40, and never below it
+unfoldable pub height : ℕ → ℕ → ℕ → ℕ
+height w mean deviation = expUpper (exponent w mean deviation)
+
+unfoldable pub heights : ℕ → ScaledCurve → Heights
+heights w c = record { first = height w (c .mean1) (c .deviation1); second = height w (c .mean2) (c .deviation2) }
+
+-- what the functions of a curve ask of its whole numbers
+pub record Usable (c : ScaledCurve) : Type 0 where
+  pub weight1 : c .weight1 ≤ 144240
+  pub plus2 : c .plus2 ≤ 50640
+  pub minus2 : c .minus2 ≤ 50640
+  pub mean1 : c .mean1 < 2 ^ 20
+  pub mean2 : c .mean2 < 2 ^ 20
+  pub deviation1 : 8192 ≤ c .deviation1
+  pub deviation2 : 8192 ≤ c .deviation2
+
+-- k (C1 e1 + C2 e2) of a curve, its exponentials in units of 2^-40
+unfoldable pub weighted : ℕ → ScaledCurve → Heights → Signed
+weighted k c h = record {
+  plus = scaledProduct (k * c .weight1) (h .first) + scaledProduct (k * c .plus2) (h .second);
+  minus = scaledProduct (k * c .minus2) (h .second);
+}
+
+-- m, given in 10^-17, in units of 2^-40
+unfoldable pub factor : ℕ → ℕ
+factor m = m * 2 ^ 40 / 10 ^ 17
+
+-- a + b e of the supplement's rate, in units of 2^-40: c in 12000ths, b in tenths, the exponential e in units of 2^-40
+unfoldable pub rate : ℕ → ℕ → ℕ → ℕ → ℕ
+rate w c b e = min (c * 100 * 2 ^ 27 + (w - unit)) (1380000 * 2 ^ 27) * 8192 / 1200000 + b * e / 10
+
+abbrev pub sum : Signed → Signed → Signed
+sum x y = record { plus = x .plus + y .plus; minus = x .minus + y .minus }
+
+-- both sides times a number in units of 2^-40
+unfoldable pub times : Signed → ℕ → Signed
+times x f = record { plus = scaledProduct (x .plus) f; minus = scaledProduct (x .minus) f }
+
+-- Money is carried in units of 1 / 1200000 cent, and numbers are made over an offset of 100000 cents.
+unfoldable pub signed : ℕ → Signed
+signed t = record { plus = t - 100000; minus = 100000 - t }
+
+-- both amounts together in cents, rounded up after an addition that covers all errors
+unfoldable pub roundedUp : Signed → Signed → Signed
+roundedUp x y = signed ((x .plus + y .plus + (100000 * 1200000 + 500 + 1199999) - (x .minus + y .minus)) / 1200000)
+
+-- an amount in cents, rounded down after a subtraction that covers all errors
+unfoldable pub roundedDown : Signed → Signed
+roundedDown x = signed ((x .plus + (100000 * 1200000 - 11000) - x .minus) / 1200000)
+
+-- the base: A counts 10^7 times and B by the balance in cents, both in 12ths
+unfoldable pub baseUnits : Bool → ℕ → ℕ → ℕ → ℕ → Signed
+baseUnits first w balance months m =
+    times
+    (sum
+    (weighted (10 ^ 7) (scaledA first months) (heights w (scaledA first months)))
+    (weighted balance (scaledB first months) (heights w (scaledB first months))))
+    (factor m)
+
+-- r of the supplement
+unfoldable pub rateUnits : Bool → ℕ → ℕ → ℕ
+rateUnits first w months = rate w (scaledC first months) (tenthsB first months) (expUpper (months * 2 ^ 38 / 120))
+
+abbrev pub none : Signed
+none = record { plus = 0; minus = 0 }
+
+-- both numbers from the base and r, with a supplement or without
+unfoldable pub chargeFrom : Bool → Signed → ℕ → LoanCharge
+chargeFrom true base r = record { total = roundedUp base (times base r); supplement = roundedDown (times base r) }
+chargeFrom false base r = record { total = roundedUp base none; supplement = none }
+
+-- A loan's two numbers: its base plus supplement, and its supplement, in cents. Value over balance is p / q, m is in 10^-17.
+unfoldable pub chargeOf : (p q balance months term : ℕ) (supplement : Bool) (m : ℕ) → LoanCharge
+chargeOf p q balance months term supplement m =
+    chargeFrom supplement
+    (baseUnits (firstSet term) (scaledValue p q) balance months m)
+    (rateUnits (firstSet term) (scaledValue p q) months)
+
+-- the numbers of a loan for which this is a charge
+pub record Chargeable (q balance months m : ℕ) : Type 0 where
+  pub divisor-least : 1 ≤ q
+  pub divisor-most : q ≤ 2 * 10 ^ 16
+  pub balance-most : balance ≤ 2 * 10 ^ 8
+  pub months-least : 1 ≤ months
+  pub months-most : months ≤ 480
+  pub factor-most : m ≤ 3 * 10 ^ 17

@@ -1,0 +1,5 @@
+pub mod Charge
+pub mod Coefficients
+pub mod Computation
+pub mod CreditFactor
+pub mod Integers

@@ -1,0 +1,143 @@
+// The adjustment factor for credit quality, m, in units of 10^-17.
+use crate::Score;
+ghost use mathlib.Core.Path.{_≡_};
+ghost use Prim.Native.Nat.{_≤_};
+ghost use lib.Dec.{leb};
+ghost use Rattle.exact.specs.Choice.{pick};
+ghost use Rattle.loan_charge.specs.CreditFactor.{band, column, columnServing, builtInRates, scoredFactor, unscoredFactor, creditFactor};
+
+// The regulator's table: eleven bands of scores, six ages each. It is made once and lent, since a constant array would be stored at every use.
+pub fn rates() -> [u64; 66]
+    ensures { λ r. ⌜ r ≡ builtInRates ⌝ }
+{
+    [
+        300000000000000000,
+        300000000000000000,
+        300000000000000000,
+        300000000000000000,
+        300000000000000000,
+        300000000000000000,
+        205000000000000000,
+        205000000000000000,
+        205000000000000000,
+        205000000000000000,
+        205000000000000000,
+        205000000000000000,
+        180000000000000000,
+        180000000000000000,
+        180000000000000000,
+        180000000000000000,
+        180000000000000000,
+        180000000000000000,
+        160000000000000000,
+        160000000000000000,
+        160000000000000000,
+        160000000000000000,
+        160000000000000000,
+        160000000000000000,
+        135000000000000000,
+        135000000000000000,
+        135000000000000000,
+        135000000000000000,
+        135000000000000000,
+        135000000000000000,
+        110000000000000000,
+        110000000000000000,
+        110000000000000000,
+        110000000000000000,
+        110000000000000000,
+        110000000000000000,
+        90000000000000000,
+        100000000000000000,
+        100000000000000000,
+        100000000000000000,
+        100000000000000000,
+        100000000000000000,
+        65000000000000000,
+        90000000000000000,
+        100000000000000000,
+        100000000000000000,
+        100000000000000000,
+        100000000000000000,
+        55000000000000000,
+        65000000000000000,
+        90000000000000000,
+        100000000000000000,
+        100000000000000000,
+        100000000000000000,
+        45000000000000000,
+        55000000000000000,
+        65000000000000000,
+        90000000000000000,
+        100000000000000000,
+        100000000000000000,
+        40000000000000000,
+        45000000000000000,
+        55000000000000000,
+        65000000000000000,
+        90000000000000000,
+        100000000000000000,
+    ]
+}
+
+// 1 where the number reaches the limit, else 0.
+fn reaches(x: u64, limit: u64) -> usize
+    ensures { λ r. ⌜ (r ≡ pick (leb limit x) 1 0) × (r ≤ 1) ⌝ }
+{
+    if limit <= x { 1 } else { 0 }
+}
+
+fn band(number: u64) -> usize
+    ensures { λ r. ⌜ (r ≡ band number) × (r ≤ 10) ⌝ }
+{
+    reaches(number, 600)
+        + reaches(number, 620)
+        + reaches(number, 640)
+        + reaches(number, 660)
+        + reaches(number, 680)
+        + reaches(number, 700)
+        + reaches(number, 720)
+        + reaches(number, 740)
+        + reaches(number, 760)
+        + reaches(number, 780)
+}
+
+fn column(age: u64) -> usize
+    ensures { λ r. ⌜ (r ≡ column age) × (r ≤ 5) ⌝ }
+{
+    reaches(age, 13) + reaches(age, 25) + reaches(age, 37) + reaches(age, 49) + reaches(age, 61)
+}
+
+fn column_serving(aged: bool, age: u64) -> usize
+    ensures { λ r. ⌜ (r ≡ columnServing aged age) × (r ≤ 5) ⌝ }
+{
+    if aged { column(age) } else { 0 }
+}
+
+fn scored_factor(rates: &[u64; 66], aged: bool, number: u64, age: u64) -> u64
+    ensures { λ r. ⌜ r ≡ scoredFactor (now (rates .entry)) aged number age ⌝ }
+{
+    let at = band(number) * 6 + column_serving(aged, age);
+    rates[at]
+}
+
+// More than 5% of the loans without a score: 20 times their number exceeds that of all, with no product that could pass 64 bits.
+fn unscored_factor(loans: u64, unscored: u64) -> u64
+    ensures { λ r. ⌜ r ≡ unscoredFactor loans unscored ⌝ }
+{
+    if loans / 20 < unscored {
+        300000000000000000
+    } else {
+        130000000000000000
+    }
+}
+
+// The factor of a score, by the lent table of rates.
+pub fn credit_factor(score: Score, aged: bool, loans: u64, unscored: u64, rates: &[u64; 66]) -> u64
+    ensures { λ r. ⌜ r ≡ creditFactor (now (rates .entry)) aged loans unscored score ⌝ }
+{
+    match score {
+        Score::Scored { number, age } => scored_factor(rates, aged, number, age),
+        Score::Unscored => unscored_factor(loans, unscored),
+    }
+}
