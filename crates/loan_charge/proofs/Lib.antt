@@ -1,1 +1,4 @@
+pub mod Gauss
+pub mod Money
 pub mod Near
+pub mod ScaledValue

@@ -53,46 +53,53 @@ pub near-mul : {s a xn xd α₁ β₁ b fn fd α₂ β₂ c : ℕ} (A B k₁ k�
     Near c (xn * fn) (xd * fd) (B * α₁ + k₁) (1 + B * β₁ + k₂)
 near-mul {s} {a} {xn} {xd} {α₁} {β₁} {b} {fn} {fd} {α₂} {β₂} {c} A B k₁ k₂ hs f p q ha hf h₁ h₂ = record {
   low =
-    le-of-mul-le-mul-left
-    (low-chain (s * (xn * fn))
-    (floored-below xd fd f)
-    (mul-le-mul-left (a * xd) (q .low))
-    (split-low s a xd fn fd α₂)
-    (mul-le-mul-left (s * fn) (p .low))
-    (split s xn xd fn α₁)
-    (mul-le-mul-left (s * α₁ * xd) hf)
-    (regroup s α₁ xd B fd)
-    (allowance s a α₂ A k₁ xd fd ha h₁)
-    (split-goal s (xn * fn) (B * α₁) k₁ (xd * fd)))
-    hs;
+      le-of-mul-le-mul-left
+      (low-chain (s * (xn * fn))
+      (floored-below xd fd f)
+      (mul-le-mul-left (a * xd) (q .low))
+      (split-low s a xd fn fd α₂)
+      (mul-le-mul-left (s * fn) (p .low))
+      (split s xn xd fn α₁)
+      (mul-le-mul-left (s * α₁ * xd) hf)
+      (regroup s α₁ xd B fd)
+      (allowance s a α₂ A k₁ xd fd ha h₁)
+      (split-goal s (xn * fn) (B * α₁) k₁ (xd * fd)))
+      hs;
   high =
-    le-of-mul-le-mul-left
-    (high-chain
-    (le-trans (turn s xn fn) (mul-le-mul-left (s * fn) (p .high)))
-    (split-high s fn a xd β₁)
-    (mul-le-mul-left (a * xd) (q .high))
-    (split-above a xd b fd β₂)
-    (floored-above xd fd f)
-    (allowance s a β₂ A k₂ xd fd ha h₂)
-    (mul-le-mul-left (s * β₁ * xd) hf)
-    (regroup s β₁ xd B fd)
-    (split-sum s c (B * β₁) k₂ (xd * fd)))
-    hs;
+      le-of-mul-le-mul-left
+      (high-chain
+      (le-trans (turn s xn fn) (mul-le-mul-left (s * fn) (p .high)))
+      (split-high s fn a xd β₁)
+      (mul-le-mul-left (a * xd) (q .high))
+      (split-above a xd b fd β₂)
+      (floored-above xd fd f)
+      (allowance s a β₂ A k₂ xd fd ha h₂)
+      (mul-le-mul-left (s * β₁ * xd) hf)
+      (regroup s β₁ xd B fd)
+      (split-sum s c (B * β₁) k₂ (xd * fd)))
+      hs;
 }
   where
     turn : (s xn fn : ℕ) → s * (xn * fn) ≤ s * fn * xn
     turn s xn fn = omega arith
+
     split-low : (s a xd fn fd α₂ : ℕ) → a * xd * (s * fn + α₂ * fd) ≡ s * fn * (a * xd) + a * α₂ * (xd * fd)
     split-low s a xd fn fd α₂ = omega arith
+
     split : (s xn xd fn α₁ : ℕ) → s * fn * (xn + α₁ * xd) ≡ s * (xn * fn) + s * α₁ * xd * fn
     split s xn xd fn α₁ = omega arith
+
     regroup : (s α₁ xd B fd : ℕ) → s * α₁ * xd * (B * fd) ≡ s * (B * α₁ * (xd * fd))
     regroup s α₁ xd B fd = omega arith
+
     split-goal : (s g b k d : ℕ) → s * (g + (b + k) * d) ≡ s * g + s * (b * d) + s * (k * d)
     split-goal s g b k d = omega arith
+
     split-high : (s fn a xd β₁ : ℕ) → s * fn * ((a + β₁) * xd) ≡ a * xd * (s * fn) + s * β₁ * xd * fn
     split-high s fn a xd β₁ = omega arith
+
     split-above : (a xd b fd β₂ : ℕ) → a * xd * ((b + β₂) * fd) ≡ a * xd * (b * fd) + a * β₂ * (xd * fd)
     split-above a xd b fd β₂ = omega arith
+
     split-sum : (s c b k d : ℕ) → s * ((c + (1 + b + k)) * d) ≡ s * ((c + 1) * d) + s * (b * d) + s * (k * d)
     split-sum s c b k d = omega arith

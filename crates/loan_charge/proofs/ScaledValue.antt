@@ -1,0 +1,85 @@
+-- z in fixed point: what the long division gives, that it is the definition's value, and its enclosure.
+-- Assumes nothing.
+use mathlib.Core.Path.{_≡_, refl, sym, _∙_, ap, subst⁻¹}
+use Prim.Native.Nat.{ℕ, _+_, _*_, _-_, _/_, _%_, _^_, _≤_, _<_, min, max, zero-le}
+use native.Mathlib.Omega.{arith}
+use native.Mathlib.Nat.{mul-le-mul-left, mul-le-mul-right, le-of-mul-le-mul-right, le-trans, lt-of-le-of-lt, le-of-lt, mul-div-cancel, max-eq-left, max-eq-right, min-eq-left, min-eq-right, div-eq-of-lt-le, le-div-iff-mul-le, div-lt-iff-lt-mul, div-add-mod', div-mul-le-self, lt-div-mul-add, le-max-left, le-max-right, mul-lt-mul-of-pos-left}
+use Rattle.fixed_point.specs.Quotient.{divisionStep}
+use Rattle.fixed_point.specs.declared.Division.{Division}
+use Rattle.fixed_point.proofs.Laws.{step-whole, step-remainder}
+use Rattle.loan_charge.specs.Computation.{unit, scaledValue}
+
+-- a long division of F p by q
+pub record Divided (F p q : ℕ) (d : Division) : Type 0 where
+  pub whole : d .quotient * q + d .remainder ≡ F * p
+  pub small : d .remainder < q
+
+pub divided-step : {F p q : ℕ} {d d' : Division} (f : ℕ) → Divided F p q d → d' ≡ divisionStep d q f → Divided (f * F) p q d'
+divided-step {F} {p} {q} {d} {d'} f h e =
+    subst⁻¹ (λ (x : Division). Divided (f * F) p q x) e
+    (record {
+      whole = step-whole d q f ∙ ap (λ (t : ℕ). f * t) (h .whole) ∙ omega arith;
+      small = step-remainder d q f (lt-of-le-of-lt zero-le (h .small));
+    })
+
+-- the quotient of a number below 16 q
+pub quotient-bound : {F p q : ℕ} {d : Division} → Divided F p q d → p ≤ 16 * q → d .quotient ≤ 16 * F
+quotient-bound {F} {p} {q} {d} h k =
+    le-of-mul-le-mul-right {k = q}
+    (omega (arith, h .whole, mul-le-mul-left F k))
+    (lt-of-le-of-lt zero-le (h .small))
+
+-- a step of the long division may be taken
+pub step-fits : {F p q : ℕ} {d : Division} (f : ℕ) → Divided F p q d → p ≤ 16 * q → q ≤ 2 * 10 ^ 16 → f ≤ 512 → 16 * F * f < 2 ^ 62 →
+    (d .remainder < q) × (q * f < 2 ^ 64) × (d .quotient * f < 2 ^ 62) × (f < 2 ^ 62)
+step-fits {F} {p} {q} {d} f h k small f-small fits =
+    (h .small, omega (arith, mul-le-mul-left q f-small), lt-of-le-of-lt (mul-le-mul-right f (quotient-bound h k)) fits, omega arith)
+
+pub quotient-is : {F p q : ℕ} {d : Division} → Divided F p q d → d .quotient ≡ F * p / q
+quotient-is {F} {p} {q} {d} h = sym (div-eq-of-lt-le q (omega (arith, h .whole)) (omega (arith, h .whole, h .small)))
+
+-- A division begun, and carried on by the factors 400, 300 and three times 512.
+
+pub begun : (q : ℕ) (d : Division) → d .remainder < q → Divided 1 (d .quotient * q + d .remainder) q d
+begun q d h = record { whole = omega arith; small = h }
+
+pub begun-bound : (q : ℕ) (d : Division) → d .remainder < q → d .quotient < 16 → d .quotient * q + d .remainder ≤ 16 * q
+begun-bound q d h k = omega (arith, mul-le-mul-right q k)
+
+pub step₁ : {P q : ℕ} {d d₁ : Division} → Divided 1 P q d → d₁ ≡ divisionStep d q 400 → Divided 400 P q d₁
+step₁ h e₁ = divided-step 400 h e₁
+
+pub step₂ : {P q : ℕ} {d d₁ d₂ : Division} → Divided 1 P q d → d₁ ≡ divisionStep d q 400 → d₂ ≡ divisionStep d₁ q 300 →
+    Divided (300 * 400) P q d₂
+step₂ h e₁ e₂ = divided-step 300 (step₁ h e₁) e₂
+
+pub step₃ : {P q : ℕ} {d d₁ d₂ d₃ : Division} → Divided 1 P q d → d₁ ≡ divisionStep d q 400 → d₂ ≡ divisionStep d₁ q 300 →
+    d₃ ≡ divisionStep d₂ q 512 → Divided (512 * 300 * 400) P q d₃
+step₃ h e₁ e₂ e₃ = divided-step 512 (step₂ h e₁ e₂) e₃
+
+pub step₄ : {P q : ℕ} {d d₁ d₂ d₃ d₄ : Division} → Divided 1 P q d → d₁ ≡ divisionStep d q 400 → d₂ ≡ divisionStep d₁ q 300 →
+    d₃ ≡ divisionStep d₂ q 512 → d₄ ≡ divisionStep d₃ q 512 → Divided (512 * 512 * 300 * 400) P q d₄
+step₄ h e₁ e₂ e₃ e₄ = divided-step 512 (step₃ h e₁ e₂ e₃) e₄
+
+pub step₅ : {P q : ℕ} {d d₁ d₂ d₃ d₄ d₅ : Division} → Divided 1 P q d → d₁ ≡ divisionStep d q 400 → d₂ ≡ divisionStep d₁ q 300 →
+    d₃ ≡ divisionStep d₂ q 512 → d₄ ≡ divisionStep d₃ q 512 → d₅ ≡ divisionStep d₄ q 512 → Divided unit P q d₅
+step₅ h e₁ e₂ e₃ e₄ e₅ = divided-step 512 (step₄ h e₁ e₂ e₃ e₄) e₅
+
+-- The three cases of the value.
+
+pub value-least : (p q : ℕ) → p < q → unit ≡ scaledValue p q
+unfolding scaledValue
+value-least p q h = rw (max-eq-right (le-of-lt h), mul-div-cancel unit (lt-of-le-of-lt zero-le h))
+
+pub value-most : (p q : ℕ) → 0 < q → q ≤ p → 16 ≤ p / q → 16 * unit ≡ scaledValue p q
+unfolding scaledValue
+value-most p q pos h k =
+    rw (max-eq-left h)
+    (sym (min-eq-left (le-div-iff-mul-le pos .1 (omega (arith, mul-le-mul-right q k, div-mul-le-self p q)))))
+
+pub value-between : (p q r : ℕ) → 0 < q → q ≤ p → p / q < 16 → r ≡ unit * (p / q * q + p % q) / q → r ≡ scaledValue p q
+unfolding scaledValue
+value-between p q r pos h k e =
+    rw (max-eq-left h)
+    (e ∙ ap (λ (t : ℕ). unit * t / q) (div-add-mod' p q) ∙
+    sym (min-eq-right (le-of-lt (div-lt-iff-lt-mul pos .1 (omega (arith, div-lt-iff-lt-mul pos .0 k))))))
