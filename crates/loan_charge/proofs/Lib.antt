@@ -1,3 +1,4 @@
+pub mod CoefficientLaws
 pub mod Gauss
 pub mod Money
 pub mod Near

@@ -1,1 +1,3 @@
+pub mod Coefficients
 pub mod Computation
+pub mod Integers

@@ -1,0 +1,22 @@
+-- A: each choice and difference is what its call ensures.
+use borrow.Author.Needs.{needs}
+use Rattle.loan_charge.specs.Integers.{scaledA}
+use Rattle.loan_charge.proofs.coefficients.curve_a.Statement.{statement}
+use Rattle.loan_charge.proofs.coefficients.curve_a.Tie as tie
+
+first-a-requires : tie.Need-first-a-requires
+first-a-requires c κs = search needs
+
+other-a-requires : tie.Need-other-a-requires
+other-a-requires c κs = search needs
+
+returns : tie.Need-returns
+unfolding scaledA
+returns c = cc
+
+returns-2 : tie.Need-returns-2
+unfolding scaledA
+returns-2 c = cc
+
+pub curve-a-spec : {M : Type 1} → statement M
+curve-a-spec = tie.close (tie.spec first-a-requires other-a-requires returns returns-2)

@@ -1,0 +1,22 @@
+-- B: each choice and difference is what its call ensures.
+use borrow.Author.Needs.{needs}
+use Rattle.loan_charge.specs.Integers.{scaledB}
+use Rattle.loan_charge.proofs.coefficients.curve_b.Statement.{statement}
+use Rattle.loan_charge.proofs.coefficients.curve_b.Tie as tie
+
+first-b-requires : tie.Need-first-b-requires
+first-b-requires c κs = search needs
+
+other-b-requires : tie.Need-other-b-requires
+other-b-requires c κs = search needs
+
+returns : tie.Need-returns
+unfolding scaledB
+returns c = cc
+
+returns-2 : tie.Need-returns-2
+unfolding scaledB
+returns-2 c = cc
+
+pub curve-b-spec : {M : Type 1} → statement M
+curve-b-spec = tie.close (tie.spec first-b-requires other-b-requires returns returns-2)

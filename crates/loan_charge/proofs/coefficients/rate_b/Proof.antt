@@ -1,0 +1,19 @@
+-- b: each choice and difference is what its call ensures.
+use borrow.Author.Needs.{needs}
+use Rattle.loan_charge.specs.Integers.{tenthsB}
+use Rattle.loan_charge.proofs.coefficients.rate_b.Statement.{statement}
+use Rattle.loan_charge.proofs.coefficients.rate_b.Tie as tie
+
+up-to-requires : tie.Need-up-to-requires
+up-to-requires c κs = search needs
+
+returns : tie.Need-returns
+unfolding tenthsB
+returns c = cc
+
+returns-2 : tie.Need-returns-2
+unfolding tenthsB
+returns-2 c = cc
+
+pub rate-b-spec : {M : Type 1} → statement M
+rate-b-spec = tie.close (tie.spec up-to-requires returns returns-2)

@@ -1,0 +1,13 @@
+-- `up_to` meets its contract: the test that was taken is the test of the definition.
+use borrow.Author.Tests.{le-leb, lt-leb}
+use Rattle.loan_charge.proofs.coefficients.up_to.Statement.{statement}
+use Rattle.loan_charge.proofs.coefficients.up_to.Tie as tie
+
+returns : tie.Need-returns
+returns c = simp (le-leb _ _ (c .if1 .taken))
+
+returns-2 : tie.Need-returns-2
+returns-2 c = simp (lt-leb _ _ (c .if1 .left))
+
+pub up-to-spec : {M : Type 1} → statement M
+up-to-spec = tie.close (tie.spec returns returns-2)
