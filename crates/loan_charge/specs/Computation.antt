@@ -2,7 +2,9 @@
 -- what they promise stands in proofs/ChargeLaws.antt.
 use Prim.Native.Nat.{ℕ, _+_, _*_, _-_, _/_, _^_, _≤_, _<_, min, max}
 use Rattle.fixed_point.specs.Quotient.{scaledProduct}
+use Rattle.loan_charge.specs.declared.charge.Heights.{Heights}
 use Rattle.loan_charge.specs.declared.charge.Signed.{Signed}
+use Rattle.loan_charge.specs.declared.coefficients.ScaledCurve.{ScaledCurve}
 
 -- the units in which z is carried: so many to 1
 abbrev pub unit : ℕ
@@ -24,6 +26,13 @@ deviations w mean deviation = distance w mean * 8192 / deviation
 unfoldable pub exponent : ℕ → ℕ → ℕ → ℕ
 exponent w mean deviation = scaledProduct (deviations w mean deviation) (deviations w mean deviation) / 8
 
+-- k (C1 e1 + C2 e2) of a curve, its exponentials in units of 2^-40
+unfoldable pub weighted : ℕ → ScaledCurve → Heights → Signed
+weighted k c h = record {
+  plus = scaledProduct (k * c .weight1) (h .first) + scaledProduct (k * c .plus2) (h .second);
+  minus = scaledProduct (k * c .minus2) (h .second);
+}
+
 -- m, given in 10^-17, in units of 2^-40
 unfoldable pub factor : ℕ → ℕ
 factor m = m * 2 ^ 40 / 10 ^ 17
@@ -31,6 +40,9 @@ factor m = m * 2 ^ 40 / 10 ^ 17
 -- a + b e of the supplement's rate, in units of 2^-40: c in 12000ths, b in tenths, the exponential e in units of 2^-40
 unfoldable pub rate : ℕ → ℕ → ℕ → ℕ → ℕ
 rate w c b e = min (c * 100 * 2 ^ 27 + (w - unit)) (1380000 * 2 ^ 27) * 8192 / 1200000 + b * e / 10
+
+abbrev pub sum : Signed → Signed → Signed
+sum x y = record { plus = x .plus + y .plus; minus = x .minus + y .minus }
 
 -- both sides times a number in units of 2^-40
 unfoldable pub times : Signed → ℕ → Signed

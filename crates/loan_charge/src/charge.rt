@@ -1,7 +1,9 @@
 // A loan's two numbers in fixed point. Each step that multiplies and divides is a function of its own.
 ghost use mathlib.Core.Path.{_≡_};
 ghost use Prim.Native.Nat.{_+_, _*_, _/_, _^_, _<_, _≤_, min};
-ghost use Rattle.loan_charge.specs.Computation.{unit, scaledValue, distance, deviations, exponent, factor, rate, times, signed, roundedUp, roundedDown};
+ghost use Rattle.fixed_point.specs.Quotient.{scaledProduct};
+ghost use Rattle.loan_charge.specs.Computation.{unit, scaledValue, distance, deviations, exponent, weighted, factor, rate, sum, times, signed, roundedUp, roundedDown};
+use super::coefficients::ScaledCurve;
 use fixed_point::Division;
 use fixed_point::division_step;
 use fixed_point::scaled_product;
@@ -10,6 +12,12 @@ use fixed_point::scaled_product;
 pub struct Signed {
     pub plus: u64,
     pub minus: u64,
+}
+
+// The two exponentials of a curve, in units of 2^-40.
+pub struct Heights {
+    pub first: u64,
+    pub second: u64,
 }
 
 const UNIT: u64 = 16106127360000;
@@ -72,6 +80,35 @@ fn exponent_of(w: u64, mean: u64, deviation: u64) -> u64
 {
     let t = deviations_from(w, mean, deviation);
     scaled_product(t, t) / 8
+}
+
+// One term of that.
+fn weighted_term(k: u64, weight: u64, e: u64) -> u64
+    requires { ⌜ (k ≤ 2 * 10 ^ 8) × (weight ≤ 144240) × (e ≤ 2 ^ 41) ⌝ }
+    ensures { λ r. ⌜ r ≡ scaledProduct (k * weight) e ⌝ }
+{
+    scaled_product(k * weight, e)
+}
+
+// k (C1 e1 + C2 e2) of a curve.
+fn weighted_by(k: u64, c: ScaledCurve, h: Heights) -> Signed
+    requires { ⌜ (k ≤ 2 * 10 ^ 8) × (c .weight1 ≤ 144240) × (c .plus2 ≤ 50640) × (c .minus2 ≤ 50640) × (h .first ≤ 2 ^ 41) × (h .second ≤ 2 ^ 41) ⌝ }
+    ensures { λ r. ⌜ r ≡ weighted k c h ⌝ }
+{
+    Signed {
+        plus: weighted_term(k, c.weight1, h.first) + weighted_term(k, c.plus2, h.second),
+        minus: weighted_term(k, c.minus2, h.second),
+    }
+}
+
+fn sum_of(x: Signed, y: Signed) -> Signed
+    requires { ⌜ (x .plus < 2 ^ 51) × (y .plus < 2 ^ 51) × (x .minus < 2 ^ 51) × (y .minus < 2 ^ 51) ⌝ }
+    ensures { λ r. ⌜ r ≡ sum x y ⌝ }
+{
+    Signed {
+        plus: x.plus + y.plus,
+        minus: x.minus + y.minus,
+    }
 }
 
 // m, given in 10^-17, in units of 2^-40: by 2^23 / 5^17, which is the same and fits.
