@@ -103,3 +103,17 @@ near-mul {s} {a} {xn} {xd} {α₁} {β₁} {b} {fn} {fd} {α₂} {β₂} {c} A B
 
     split-sum : (s c b k d : ℕ) → s * ((c + (1 + b + k)) * d) ≡ s * ((c + 1) * d) + s * (b * d) + s * (k * d)
     split-sum s c b k d = omega arith
+
+-- The same fraction under other names, or with both parts multiplied.
+
+pub near-equal : {v n n' d d' α β : ℕ} → Near v n d α β → n ≡ n' → d ≡ d' → Near v n' d' α β
+near-equal p e e' = rw (← e, ← e') p
+
+pub near-scale : {v n d α β : ℕ} (j : ℕ) → Near v n d α β → Near v (n * j) (d * j) α β
+near-scale {v} {n} {d} {α} {β} j p = record {
+  low = omega (arith, mul-le-mul-right j (p .low));
+  high = omega (arith, mul-le-mul-right j (p .high));
+}
+
+pub near-self : (w : ℕ) → Near w w 1 0 0
+near-self w = record { low = omega arith; high = omega arith }
