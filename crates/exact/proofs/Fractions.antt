@@ -1,12 +1,12 @@
 -- Laws of the signed fractions: they are numbers, whatever way they are written.
 -- Assumes nothing.
 use mathlib.Core.Path.{_≡_, refl, sym, _∙_, ap, ap₂}
-use Prim.Native.Nat.{ℕ, _+_, _-_, _*_, _≤_, _<_, max, min, zero-le}
+use Prim.Native.Nat.{ℕ, _+_, _*_, _≤_, _<_}
 use native.Mathlib.Decide.{decLe}
 use mathlib.Core.Logic.{⊎-elim, _⊎_, inl, inr}
-use native.Mathlib.Nat.{le-dest, le-of-lt, lt-of-not-le, max-eq-left, max-eq-right, min-eq-left, min-eq-right, sub-add-cancel, mul-le-mul-left, mul-lt-mul-of-pos-left, mul-pos, le-of-mul-le-mul-left, lt-of-mul-lt-mul-left, eq-of-mul-eq-mul-left, le-of-eq, le-antisymm, add-le-add, add-lt-add-of-lt-of-le}
+use native.Mathlib.Nat.{le-dest, le-of-lt, lt-of-not-le, max-eq-left, max-eq-right, min-eq-left, min-eq-right, sub-add-cancel, mul-le-mul-left, mul-le-mul-right, mul-lt-mul-of-pos-left, mul-pos, le-of-mul-le-mul-left, lt-of-mul-lt-mul-left, eq-of-mul-eq-mul-left, le-of-eq, le-antisymm, add-le-add, add-lt-add-of-lt-of-le}
 use native.Mathlib.Omega.{arith}
-use Rattle.exact.specs.Fraction.{Fraction, Proper, quotient, whole, negated, _⊕_, _⊖_, _⊗_, _≼_, _≺_, _≈_, larger, smaller, reciprocal}
+use Rattle.exact.specs.Fraction.{Fraction, Proper, quotient, negated, _⊕_, _⊗_, _≼_, _≺_, _≈_, larger, smaller, reciprocal}
 
 -- Proper
 
@@ -67,6 +67,27 @@ same-product-left {x} {x′} y h =
       crossed = omega (arith, ap (λ (t : ℕ). y .over * y .plus * t) (h .crossed), ap (λ (t : ℕ). y .over * y .minus * t) (h .crossed));
     }
 
+-- equal in each part
+pub same-of-parts : {x y : Fraction} → x .plus ≡ y .plus → x .minus ≡ y .minus → x .over ≡ y .over → x ≈ y
+same-of-parts p m o = record { crossed = omega (arith, ap₂ _*_ p (sym o), ap₂ _*_ m (sym o)) }
+
+-- each part k times
+pub same-of-multiple : {x y : Fraction} (k : ℕ) → y .plus ≡ k * x .plus → y .minus ≡ k * x .minus → y .over ≡ k * x .over → x ≈ y
+same-of-multiple {x} {y} k p m o =
+    record { crossed = omega (arith, ap (λ (t : ℕ). x .plus * t) o, ap (λ (t : ℕ). t * x .over) m, ap (λ (t : ℕ). t * x .over) p, ap (λ (t : ℕ). x .minus * t) o) }
+
+pub product-sum : (x y f : Fraction) → (x ⊕ y) ⊗ f ≈ x ⊗ f ⊕ y ⊗ f
+product-sum x y f = same-of-multiple (f .over) (omega arith) (omega arith) (omega arith)
+
+pub product-assoc : (x y z : Fraction) → x ⊗ y ⊗ z ≈ x ⊗ (y ⊗ z)
+product-assoc x y z = same-of-parts (omega arith) (omega arith) (omega arith)
+
+pub sum-comm : (x y : Fraction) → x ⊕ y ≈ y ⊕ x
+sum-comm x y = same-of-parts (omega arith) (omega arith) (omega arith)
+
+pub sum-assoc : (x y z : Fraction) → x ⊕ y ⊕ z ≈ x ⊕ (y ⊕ z)
+sum-assoc x y z = same-of-parts (omega arith) (omega arith) (omega arith)
+
 pub product-comm : (x y : Fraction) → x ⊗ y ≈ y ⊗ x
 product-comm x y = record { crossed = omega arith }
 
@@ -82,6 +103,9 @@ at-most-refl x = record { crossed = omega arith }
 
 pub at-most-of-same : {x y : Fraction} → x ≈ y → x ≼ y
 at-most-of-same h = record { crossed = le-of-eq (h .crossed) }
+
+pub at-most-of-below : {x y : Fraction} → x ≺ y → x ≼ y
+at-most-of-below h = record { crossed = le-of-lt (h .crossed) }
 
 pub at-most-trans : {x y z : Fraction} → Proper y → x ≼ y → y ≼ z → x ≼ z
 at-most-trans {x} {y} {z} p h k =
@@ -210,3 +234,11 @@ nonnegative-same {x} {y} p q h n =
 pub positive-same : {x y : Fraction} → Proper x → Proper y → x ≈ y → Positive x → Positive y
 positive-same {x} {y} p q h n =
     record { above = lt-of-mul-lt-mul-left (x .over) (omega (arith, mul-lt-mul-of-pos-left (n .above) (q .positive), h .crossed)) }
+
+pub nonnegative-sum : {x y : Fraction} → Nonnegative x → Nonnegative y → Nonnegative (x ⊕ y)
+nonnegative-sum {x} {y} h k = record { above = add-le-add (mul-le-mul-right (y .over) (h .above)) (mul-le-mul-right (x .over) (k .above)) }
+
+pub nonnegative-product : {x y : Fraction} → Nonnegative x → Nonnegative y → Nonnegative (x ⊗ y)
+nonnegative-product {x} {y} h k =
+    let (d, e) = le-dest (k .above) in
+    record { above = omega (arith, mul-le-mul-left d (h .above), ap (λ (t : ℕ). x .plus * t) e, ap (λ (t : ℕ). x .minus * t) e) }

@@ -19,9 +19,13 @@ unfoldable pub partialSum : ℕ → Fraction → Fraction
 partialSum zero y = term y zero
 partialSum (suc n) y = partialSum n y ⊕ term y (suc n)
 
+-- E(n) + 2 y^(n+1) / (n+1)!
+abbrev pub sumWithTail : ℕ → Fraction → Fraction
+sumWithTail n y = partialSum n y ⊕ whole 2 ⊗ term y (suc n)
+
 -- The bracket of order n: from 1 / (E(n) + 2 y^(n+1) / (n+1)!) to 1 / E(n)
 abbrev pub bracketLow : ℕ → Fraction → Fraction
-bracketLow n y = reciprocal (partialSum n y ⊕ whole 2 ⊗ term y (suc n))
+bracketLow n y = reciprocal (sumWithTail n y)
 
 abbrev pub bracketHigh : ℕ → Fraction → Fraction
 bracketHigh n y = reciprocal (partialSum n y)

@@ -1,5 +1,5 @@
 -- Signed fractions of natural numbers, in which every exact quantity of the papers is written. No rounding anywhere.
-use Prim.Native.Nat.{ℕ, _+_, _*_, _-_, _≤_, _<_, max, min}
+use Prim.Native.Nat.{ℕ, _+_, _*_, _-_, _/_, _≤_, _<_, max, min}
 use mathlib.Core.Path.{_≡_}
 
 infix 50 _≼_
@@ -76,3 +76,7 @@ smaller x y = record {
 -- 1 / x, for x above 0
 abbrev pub reciprocal : Fraction → Fraction
 reciprocal x = quotient (x .over) (x .plus - x .minus)
+
+-- x rounded up to a whole number, for x at or above 0
+unfoldable pub ceiling : Fraction → ℕ
+ceiling x = (x .plus - x .minus + (x .over - 1)) / x .over

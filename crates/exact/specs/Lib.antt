@@ -1,3 +1,4 @@
+pub mod Examples
 pub mod Exponential
 pub mod Fraction
 pub mod Quantity

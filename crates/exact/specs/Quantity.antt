@@ -2,7 +2,7 @@
 use Prim.Native.Nat.{ℕ, _≤_}
 use mathlib.Core.List.{List, List·Memᴰ}
 use Rattle.exact.specs.Fraction.{Fraction, Proper, _⊕_, _⊖_, _≼_, _≺_, _≈_}
-use Rattle.exact.specs.Exponential.{Allowed, InBracket}
+use Rattle.exact.specs.Exponential.{Allowed, InBracket, bracketHigh}
 
 -- Gives each exponent y a value to stand for exp(-y).
 abbrev pub Assignment : Type 0
@@ -47,3 +47,14 @@ LessBelow q g answer = Takes q (λ v. v ⊖ g ≺ answer)
 pub record SomeAllowed (ys : List Fraction) : Type 0 where
   pub from : ℕ
   pub allowed : (n : ℕ) → from ≤ n → AllowedAll n ys
+
+-- An exponent: a fraction at or above 0.
+pub record Exponent (y : Fraction) : Type 0 where
+  pub proper : Proper y
+  pub nonnegative : y .minus ≤ y .plus
+
+-- With every exp(-y) taken as 1 / E(m), `Holds` is true for all m from some m on. No order or bracket appears in such a law;
+-- since 1 / E(m) lies in the bracket of every allowed order up to m, the statements above follow from it (proofs/Quantities.antt).
+pub record Eventually (Holds : Assignment → Type 0) : Type 0 where
+  pub from : ℕ
+  pub holds : (m : ℕ) → from ≤ m → Holds (bracketHigh m)

@@ -1,1 +1,5 @@
+pub mod Entries
+pub mod Every
 pub mod Laws
+pub mod Promise
+pub mod Steps

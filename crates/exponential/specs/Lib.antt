@@ -1,2 +1,3 @@
 pub mod Exponential
+pub mod Promise
 pub mod Table

@@ -1,7 +1,9 @@
 -- The table of the exponential (document 01, "The exponential").
-use Prim.Native.Nat.{ℕ}
+use Prim.Native.Nat.{ℕ, suc, _+_, _*_, _-_, _^_, _≤_, _<_}
 use mathlib.Core.List.{List, [], _∷_}
 use lib.ListN.{getD}
+use Rattle.exact.proofs.Enclosure.{Above, Below}
+use Rattle.exact.proofs.Sums.{den, tailed}
 
 -- Entry k, from 0 to 1,536, is the least whole number not below 2^40 × exp(-k/64).
 unfoldable pub entries : List ℕ
@@ -203,3 +205,16 @@ entries =
 
 abbrev pub entry : ℕ → ℕ
 entry k = getD entries k 0
+
+-- t is the least whole number not below g × exp(-a/d): t / g is at or above exp(-a/d) and (t - 1) / g at or below it,
+-- and at one order allowed (t - 1) / g lies below the whole bracket.
+pub record Least (t g a d : ℕ) : Type 0 where
+  pub above : Above t g a d
+  pub below : Below (t - 1) g a d
+  pub order : ℕ
+  pub allowed : 2 * a ≤ (order + 2) * d
+  pub outside : (t - 1) * tailed a d order < g * den d (suc order)
+
+-- the table's rule
+pub record Rule : Type 0 where
+  pub at : (k : ℕ) → k ≤ 1536 → Least (entry k) (2 ^ 40) k 64

@@ -15,6 +15,12 @@ pub fn scaled_product(a: u64, b: u64) -> u64
     a1 * b1 + (a1 * b0 + a0 * b1 + a0 * b0 / 1048576) / 1048576
 }
 
+// A signed number: plus - minus.
+pub struct Signed {
+    pub plus: u64,
+    pub minus: u64,
+}
+
 // A long division so far.
 pub struct Division {
     pub quotient: u64,

@@ -1,0 +1,70 @@
+-- A law that holds from some order on with exp(-y) taken as 1 / E(m) gives document 01's statements about every allowed order.
+-- Assumes nothing.
+use mathlib.Core.Path.{_≡_, refl}
+use mathlib.Core.List.{List, [], _∷_, List·Memᴰ, List·Memᴰ·head, List·Memᴰ·tail, List·Memᴰ·not-nil, List·Memᴰ·cases-cons}
+use mathlib.Core.Logic.{⊎-elim}
+use Prim.Native.Nat.{ℕ, _+_, _-_, _*_, _≤_, max}
+use native.Mathlib.Nat.{le-max-left, le-max-right, le-trans, mul-le-mul-left}
+use native.Mathlib.Omega.{arith}
+use Rattle.exact.specs.Fraction.{Fraction, Proper}
+use Rattle.exact.specs.Exponential.{Allowed, bracketHigh}
+use Rattle.exact.specs.Quantity.{Assignment, Quantity, AllowedAll, Good, Takes, SomeAllowed, Exponent, Eventually}
+use Rattle.exact.proofs.Bridge.{At, at-of, at-same, inside, high-alike, allowed-of}
+
+-- every fraction of the list is an exponent
+abbrev pub Exponents : List Fraction → Type 0
+Exponents ys = (y : Fraction) → List·Memᴰ y ys → Exponent y
+
+-- the natural numerator and denominator of an exponent
+at : {y : Fraction} → Exponent y → At y (y .plus - y .minus) (y .over)
+at e = at-of (e .proper) (record { above = e .nonnegative })
+
+-- with exp(-y) taken as 1 / E(m), all exponentials lie in their brackets of any allowed order up to m
+pub good : {ys : List Fraction} → Exponents ys → (n m : ℕ) → n ≤ m → AllowedAll n ys → Good n ys (bracketHigh m)
+good e n m l a =
+    record {
+      inside = λ y h. inside (at (e y h)) n m l (a .each y h);
+      alike = λ y z h k s. high-alike (at (e y h)) (at-same (e z k .proper) s (at (e y h))) m;
+    }
+
+pub takes : (q : Quantity) (Stands : Fraction → Type 0) → Exponents (q .exponents) → Eventually (λ x. Proper (q .value x) × Stands (q .value x)) → Takes q Stands
+takes q Stands e v =
+    record {
+      at-order = λ n a.
+          let m : ℕ = max n (v .from) in
+          let h : Proper (q .value (bracketHigh m)) × Stands (q .value (bracketHigh m)) = v .holds m (le-max-right n (v .from)) in
+          (bracketHigh m, good e n m (le-max-left n (v .from)) a, h .0, h .1);
+    }
+
+pub both : {A B : Assignment → Type 0} → Eventually A → Eventually B → Eventually (λ x. A x × B x)
+both u v =
+    record {
+      from = max (u .from) (v .from);
+      holds = λ m h. (u .holds m (le-trans (le-max-left (u .from) (v .from)) h), v .holds m (le-trans (le-max-right (u .from) (v .from)) h));
+    }
+
+pub mapped : {A B : Assignment → Type 0} → ((m : ℕ) → A (bracketHigh m) → B (bracketHigh m)) → Eventually A → Eventually B
+mapped f u = record { from = u .from; holds = λ m h. f m (u .holds m h) }
+
+pub always : {A : Assignment → Type 0} → ((m : ℕ) → A (bracketHigh m)) → Eventually A
+always f = record { from = 0; holds = λ m h. f m }
+
+-- Every order from twice the numerator on is allowed,
+large-allowed : {y : Fraction} → Exponent y → (n : ℕ) → 2 * (y .plus - y .minus) ≤ n → Allowed n y
+large-allowed {y} e n h =
+    allowed-of (at e) n (omega (arith, mul-le-mul-left (n + 2) (e .proper .positive)))
+
+-- so some order is allowed for any list of exponents.
+pub some-allowed : (ys : List Fraction) → Exponents ys → SomeAllowed ys
+some-allowed [] e = record { from = 0; allowed = λ n h. record { each = λ y k. absurd (List·Memᴰ·not-nil k) } }
+some-allowed (y ∷ ys) e =
+    let rest : SomeAllowed ys = some-allowed ys (λ z k. e z (List·Memᴰ·tail k)) in
+    record {
+      from = max (2 * (y .plus - y .minus)) (rest .from);
+      allowed = λ n h. record {
+        each = λ z k. ⊎-elim
+            (λ (same : z ≡ y). rw same (large-allowed (e y (List·Memᴰ·head refl)) n (le-trans (le-max-left (2 * (y .plus - y .minus)) (rest .from)) h)))
+            (λ (in-rest : List·Memᴰ z ys). rest .allowed n (le-trans (le-max-right (2 * (y .plus - y .minus)) (rest .from)) h) .each z in-rest)
+            (List·Memᴰ·cases-cons k);
+      };
+    }

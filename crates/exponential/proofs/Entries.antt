@@ -1,0 +1,60 @@
+-- The table's rule: a test at order 46, the smallest that decides every entry, computed over the whole table, and carried to each entry.
+-- Assumes nothing.
+use Prim.Native.Nat.{ℕ, suc, _+_, _*_, _-_, _^_, _≤_, _<_}
+use mathlib.Core.Path.{_≡_, refl}
+use mathlib.Core.Bool.{Bool}
+use lib.Dec.{T, leb, ltb, leb→le, ltb→lt}
+use lib.ListN.{length, getD}
+use native.Mathlib.Nat.{le-of-lt, lt-of-le-of-lt, lt-of-mul-lt-mul-right, mul-le-mul-left}
+use native.Mathlib.Omega.{arith}
+use Rattle.exact.proofs.Enclosure.{below-tail}
+use Rattle.exact.proofs.Sums.{num, den, tailed, tail}
+use Rattle.exponential.specs.Table.{entries, entry, Least, Rule}
+use Rattle.exponential.proofs.Every.{both, both-left, both-right, every, at}
+
+test : ℕ → ℕ → Bool
+test k t = both (leb (2 ^ 40 * den 64 46) (t * num k 64 46)) (ltb ((t - 1) * tailed k 64 46) (2 ^ 40 * den 64 47))
+
+tested : T (every test 0 entries)
+unfolding test entries num den tailed
+tested = tt
+
+size : length entries ≡ 1537
+unfolding entries
+size = refl
+
+-- what the test says at one entry
+tested-at : (k : ℕ) → k ≤ 1536 →
+    (2 ^ 40 * den 64 46 ≤ entry k * num k 64 46) × ((entry k - 1) * tailed k 64 46 < 2 ^ 40 * den 64 47)
+unfolding test
+tested-at k h =
+    let t : T (test k (entry k)) = at test entries tested k (omega (arith, size)) in
+    let high : Bool = leb (2 ^ 40 * den 64 46) (entry k * num k 64 46) in
+    let low : Bool = ltb ((entry k - 1) * tailed k 64 46) (2 ^ 40 * den 64 47) in (
+      leb→le (2 ^ 40 * den 64 46) (entry k * num k 64 46) (both-left high low t),
+      ltb→lt ((entry k - 1) * tailed k 64 46) (2 ^ 40 * den 64 47) (both-right high low t),
+    )
+
+pub rule : Rule
+rule = record {
+  at = λ k h. record {
+    above = record { order = 46; reached = tested-at k h .0 };
+    below = below-tail 46 (omega arith) (omega arith) (le-of-lt (tested-at k h .1));
+    order = 46;
+    allowed = omega arith;
+    outside = tested-at k h .1;
+  };
+}
+
+-- Such a number is at most g.
+least-bounded : (t g a d : ℕ) → 0 < d → Least t g a d → t ≤ g
+unfolding num den
+least-bounded t g a d hd l =
+    let n : ℕ = l .order in
+    let b : t - 1 < g =
+    lt-of-mul-lt-mul-right (den d (suc n))
+    (lt-of-le-of-lt (mul-le-mul-left (t - 1) (omega (arith, tail a d n (l .allowed) 0))) (l .outside)) in
+    omega arith
+
+pub entry-bounded : (k : ℕ) → k ≤ 1536 → entry k ≤ 2 ^ 40
+entry-bounded k h = least-bounded (entry k) (2 ^ 40) k 64 (omega arith) (rule .at k h)

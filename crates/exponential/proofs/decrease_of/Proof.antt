@@ -1,0 +1,24 @@
+-- `exponential::decrease_of` meets its contract: the middle part is at most 1. Assumes nothing.
+use borrow.Author.Needs.{needs}
+use mathlib.Core.Path.{refl}
+use native.Mathlib.Omega.{arith}
+use Rattle.exponential.specs.Exponential.{decrease}
+use Rattle.exponential.proofs.Steps.{middle-most}
+use Rattle.exponential.proofs.decrease_of.Statement.{statement}
+use Rattle.exponential.proofs.decrease_of.Tie as tie
+
+middle-part-requires : tie.Need-middle-part-requires
+middle-part-requires c κs = search needs
+
+sub-scaled-product : tie.Need-sub-scaled-product
+sub-scaled-product c = omega (arith, middle-most (c .before .args .x))
+
+scaled-product-requires : tie.Need-scaled-product-requires
+scaled-product-requires c κs = search needs
+
+returns : tie.Need-returns
+unfolding decrease
+returns c = rw (c .scaled-product .ensures, c .before .middle-part .ensures) refl
+
+pub decrease-of-spec : {M : Type 1} → statement M
+decrease-of-spec = tie.close (tie.spec middle-part-requires sub-scaled-product scaled-product-requires returns)
