@@ -1,15 +1,17 @@
 -- The money part: signed amounts, their sizes, and the enclosures of a loan's two numbers over natural numbers.
 -- Assumes nothing.
 use mathlib.Core.Path.{_≡_, refl, ap}
-use Prim.Native.Nat.{ℕ, _+_, _*_, _-_, _/_, _^_, _≤_, _<_}
+use Prim.Native.Nat.{ℕ, _+_, _*_, _-_, _/_, _^_, _≤_, _<_, min}
+use native.Mathlib.Decide.{decLe}
 use native.Mathlib.Omega.{arith}
-use native.Mathlib.Nat.{mul-le-mul, mul-le-mul-left, mul-le-mul-right, le-trans, le-refl, add-le-add}
+use native.Mathlib.Nat.{mul-le-mul, mul-le-mul-left, mul-le-mul-right, le-trans, le-refl, add-le-add, min-le-left, min-le-right, min-eq-left, min-eq-right, sub-add-cancel, le-of-lt, lt-of-not-le}
 use Rattle.fixed_point.specs.Quotient.{scaledProduct}
 use Rattle.loan_charge.specs.declared.charge.Heights.{Heights}
 use Rattle.loan_charge.specs.declared.charge.Signed.{Signed}
 use Rattle.loan_charge.specs.declared.coefficients.ScaledCurve.{ScaledCurve}
-use Rattle.loan_charge.specs.Computation.{weighted, factor, sum, times, signed, roundedUp, roundedDown}
+use Rattle.loan_charge.specs.Computation.{unit, weighted, factor, rate, sum, times, signed, roundedUp, roundedDown}
 use Rattle.loan_charge.proofs.Near.{Near, Floored, near-add, near-mul, near-equal, near-scale, near-self, near-widen}
+use Rattle.loan_charge.proofs.ScaledValue.{Held}
 
 pub amounts : {a b c d : ℕ} → a ≡ c → b ≡ d → _≡_ {A = Signed} (record { plus = a; minus = b }) (record { plus = c; minus = d })
 amounts p q = λ i. record { plus = p i; minus = q i }
@@ -64,15 +66,95 @@ pub both-times : {x : Signed} {np nm d αp βp αm βm f fn fd α β : ℕ} (P M
 unfolding times
 both-times {x} {f = f} P M B kp lp km lm b n hp hm hf a = record {
   plus-near =
-    near-mul {s = 2 ^ 40} P B kp lp (omega arith) (floored (x .plus) f) (b .plus-near) n hp hf (a .plus-low) (a .plus-high);
+      near-mul {s = 2 ^ 40} P B kp lp (omega arith) (floored (x .plus) f) (b .plus-near) n hp hf (a .plus-low) (a .plus-high);
   minus-near =
-    near-mul {s = 2 ^ 40} M B km lm (omega arith) (floored (x .minus) f) (b .minus-near) n hm hf (a .minus-low) (a .minus-high);
+      near-mul {s = 2 ^ 40} M B km lm (omega arith) (floored (x .minus) f) (b .minus-near) n hm hf (a .minus-low) (a .minus-high);
 }
 
 -- m / 10^17
 pub factor-near : (m : ℕ) → Near (factor m) (2 ^ 40 * m) (10 ^ 17) 0 1
 unfolding factor
 factor-near m = record { low = omega arith; high = omega arith }
+
+-- a of the supplement's rate: the smaller of c + (z - 1) / 10 and 1.15, with c in 12000ths, over 1200000 q
+abbrev pub limitedNum : ℕ → ℕ → ℕ → ℕ
+limitedNum p q c = min (c * 100 * q + 120000 * (p - q)) (1380000 * q)
+
+-- the same in the units of z
+abbrev limited : ℕ → ℕ → ℕ
+limited w c = min (c * 100 * 2 ^ 27 + (w - unit)) (1380000 * 2 ^ 27)
+
+module _ {P q w : ℕ} (h : Held P q w) (c : ℕ) where
+  less-one : (w - unit) * q + unit * q ≡ w * q
+  less-one = omega (arith, ap (λ (t : ℕ). t * q) (sub-add-cancel (h .least)))
+
+  limited-low : limited w c * q ≤ 2 ^ 27 * limitedNum P q c
+  limited-low =
+      omega (
+        arith,
+        mul-le-mul-right q (min-le-left (c * 100 * 2 ^ 27 + (w - unit)) (1380000 * 2 ^ 27)),
+        mul-le-mul-right q (min-le-right (c * 100 * 2 ^ 27 + (w - unit)) (1380000 * 2 ^ 27)),
+        less-one,
+        h .low,
+        h .value,
+      )
+
+  limited-high : 2 ^ 27 * limitedNum P q c ≤ (limited w c + 1) * q
+  limited-high = go (decLe (c * 100 * 2 ^ 27 + (w - unit)) (1380000 * 2 ^ 27))
+    where
+      go : Dec (c * 100 * 2 ^ 27 + (w - unit) ≤ 1380000 * 2 ^ 27) → 2 ^ 27 * limitedNum P q c ≤ (limited w c + 1) * q
+      go (yes k) = rw (min-eq-left k) (omega (arith, less-one, h .value, h .high (omega arith)))
+      go (no k) = rw (min-eq-right {n = 1380000 * 2 ^ 27} {m = c * 100 * 2 ^ 27 + (w - unit)} (le-of-lt (lt-of-not-le k))) (omega arith)
+
+  limit-near : Near (limited w c * 8192 / 1200000) (2 ^ 40 * limitedNum P q c) (1200000 * q) 0 2
+  limit-near = limit-step (limited w c) q (limitedNum P q c) limited-low limited-high
+    where
+      limit-step : (x q g : ℕ) → x * q ≤ 2 ^ 27 * g → 2 ^ 27 * g ≤ (x + 1) * q →
+          Near (x * 8192 / 1200000) (2 ^ 40 * g) (1200000 * q) 0 2
+      limit-step x q g k l =
+          let n : ℕ = x * 8192 / 1200000 in
+          let n-low : n * 1200000 ≤ x * 8192 = omega arith in
+          let n-high : x * 8192 ≤ n * 1200000 + 1200000 = omega arith in
+          record {
+            low = omega (arith, mul-le-mul-right q n-low);
+            high = omega (arith, mul-le-mul-right q n-high);
+          }
+
+-- b / 10 times an exponential
+share-near : {e N D : ℕ} (b : ℕ) → b ≤ 3 → Value e N D → Near (b * e / 10) (2 ^ 40 * (b * N)) (10 * D) 13 1
+share-near {e} {N} {D} b h v =
+    let n : ℕ = b * e / 10 in
+    let n-low : n * 10 ≤ b * e = omega arith in
+    let n-high : b * e ≤ n * 10 + 10 = omega arith in
+    record {
+      low = omega (arith, mul-le-mul-right D n-low, mul-le-mul-left b (v .near .low), mul-le-mul-right D h);
+      high = omega (arith, mul-le-mul-right D n-high, mul-le-mul-left b (v .near .high));
+    }
+
+-- r = a + b exp(-n / 120), over one denominator
+abbrev pub rateNum : (p q c b N D : ℕ) → ℕ
+rateNum p q c b N D = limitedNum p q c * (10 * D) + b * N * (1200000 * q)
+
+abbrev pub rateDen : (q D : ℕ) → ℕ
+rateDen q D = 1200000 * q * (10 * D)
+
+pub rate-near : {P q w e N D : ℕ} (c b : ℕ) → Held P q w → b ≤ 3 → Value e N D →
+    Near (rate w c b e) (2 ^ 40 * rateNum P q c b N D) (rateDen q D) 13 3
+unfolding rate
+rate-near {P} {q} {w} {e} {N} {D} c b h hb v =
+    near-equal (near-add (limit-near h c) (share-near b hb v)) (regroup (limitedNum P q c) (10 * D) (b * N) (1200000 * q)) refl
+  where
+    regroup : (g d n k : ℕ) → 2 ^ 40 * g * d + 2 ^ 40 * n * k ≡ 2 ^ 40 * (g * d + n * k)
+    regroup g d n k = omega arith
+
+-- r is at most 2
+pub rate-most : {e N D : ℕ} (P q c b : ℕ) → b ≤ 3 → Value e N D → rateNum P q c b N D ≤ 2 * rateDen q D
+rate-most {e} {N} {D} P q c b hb v =
+    omega (
+      arith,
+      mul-le-mul-right (10 * D) (min-le-right (c * 100 * q + 120000 * (P - q)) (1380000 * q)),
+      mul-le-mul-right (1200000 * q) (mul-le-mul hb (v .most)),
+    )
 
 -- k (C1 e1 + C2 e2) over the product of the denominators; kP is the largest k C1 or k C2, kM the largest k of C2's minus part.
 module _ {N₁ D₁ N₂ D₂ : ℕ} (k : ℕ) (c : ScaledCurve) (h : Heights) (v₁ : Value (h .first) N₁ D₁) (v₂ : Value (h .second) N₂ D₂) where
@@ -82,15 +164,15 @@ module _ {N₁ D₁ N₂ D₂ : ℕ} (k : ℕ) (c : ScaledCurve) (h : Heights) (
   unfolding weighted
   weighted-near A₁ A₂ A₃ l₁ l₂ l₃ h₁ h₂ h₃ a₁ a₂ a₃ = record {
     plus-near =
-      near-equal
-      (near-add (weight-near (k * c .weight1) A₁ l₁ h₁ a₁ v₁) (weight-near (k * c .plus2) A₂ l₂ h₂ a₂ v₂))
-      (omega arith)
-      refl;
+        near-equal
+        (near-add (weight-near (k * c .weight1) A₁ l₁ h₁ a₁ v₁) (weight-near (k * c .plus2) A₂ l₂ h₂ a₂ v₂))
+        (omega arith)
+        refl;
     minus-near =
-      near-equal
-      (near-scale D₁ (weight-near (k * c .minus2) A₃ l₃ h₃ a₃ v₂))
-      (omega arith)
-      (omega arith);
+        near-equal
+        (near-scale D₁ (weight-near (k * c .minus2) A₃ l₃ h₃ a₃ v₂))
+        (omega arith)
+        (omega arith);
   }
 
 -- Sizes.
@@ -119,11 +201,11 @@ pub weighted-most : {c : ScaledCurve} {h : Heights} (k K w₁ w₂ w₃ n₁ n�
 unfolding weighted
 weighted-most {c} {h} k K w₁ w₂ w₃ n₁ n₂ n₃ hk w s f₁ f₂ f₃ =
     let p₁ : scaledProduct (k * c .weight1) (h .first) ≤ n₁ =
-          product-most (K * w₁) (2 ^ 40 + 42) n₁ (mul-le-mul hk (w .weight1)) (s .first) f₁ in
+    product-most (K * w₁) (2 ^ 40 + 42) n₁ (mul-le-mul hk (w .weight1)) (s .first) f₁ in
     let p₂ : scaledProduct (k * c .plus2) (h .second) ≤ n₂ =
-          product-most (K * w₂) (2 ^ 40 + 42) n₂ (mul-le-mul hk (w .plus2)) (s .second) f₂ in
+    product-most (K * w₂) (2 ^ 40 + 42) n₂ (mul-le-mul hk (w .plus2)) (s .second) f₂ in
     let p₃ : scaledProduct (k * c .minus2) (h .second) ≤ n₃ =
-          product-most (K * w₃) (2 ^ 40 + 42) n₃ (mul-le-mul hk (w .minus2)) (s .second) f₃ in
+    product-most (K * w₃) (2 ^ 40 + 42) n₃ (mul-le-mul hk (w .minus2)) (s .second) f₃ in
     record { plus = add-le-add p₁ p₂; minus = p₃ }
 
 pub times-most : {x : Signed} {f : ℕ} (P M k : ℕ) → AtMost P M x → f ≤ k * 2 ^ 40 → AtMost (P * k) (M * k) (times x f)

@@ -1,9 +1,10 @@
 -- z in fixed point: what the long division gives, that it is the definition's value, and its enclosure.
 -- Assumes nothing.
-use mathlib.Core.Path.{_≡_, refl, sym, _∙_, ap, subst⁻¹}
+use mathlib.Core.Path.{_≡_, refl, sym, _∙_, ap, ap₂, subst⁻¹}
 use Prim.Native.Nat.{ℕ, _+_, _*_, _-_, _/_, _%_, _^_, _≤_, _<_, min, max, zero-le}
+use native.Mathlib.Decide.{decLe}
 use native.Mathlib.Omega.{arith}
-use native.Mathlib.Nat.{mul-le-mul-left, mul-le-mul-right, le-of-mul-le-mul-right, le-trans, lt-of-le-of-lt, le-of-lt, mul-div-cancel, max-eq-left, max-eq-right, min-eq-left, min-eq-right, div-eq-of-lt-le, le-div-iff-mul-le, div-lt-iff-lt-mul, div-add-mod', div-mul-le-self, lt-div-mul-add, le-max-left, le-max-right, mul-lt-mul-of-pos-left}
+use native.Mathlib.Nat.{mul-le-mul-left, mul-le-mul-right, le-of-mul-le-mul-right, le-trans, lt-of-le-of-lt, le-of-lt, mul-div-cancel, max-eq-left, max-eq-right, min-eq-left, min-eq-right, div-eq-of-lt-le, le-div-iff-mul-le, div-lt-iff-lt-mul, div-add-mod', div-mul-le-self, lt-div-mul-add, le-max-left, le-max-right, mul-lt-mul-of-pos-left, mul-div-mul-right, mul-comm, min-le-right, lt-of-not-le}
 use Rattle.fixed_point.specs.Quotient.{divisionStep}
 use Rattle.fixed_point.specs.declared.Division.{Division}
 use Rattle.fixed_point.proofs.Laws.{step-whole, step-remainder}
@@ -83,3 +84,47 @@ value-between p q r pos h k e =
     rw (max-eq-left h)
     (e ∙ ap (λ (t : ℕ). unit * t / q) (div-add-mod' p q) ∙
     sym (min-eq-right (le-of-lt (div-lt-iff-lt-mul pos .1 (omega (arith, div-lt-iff-lt-mul pos .0 k))))))
+
+-- The enclosure: p / q, not below 1, in fixed point as w. Above 16 there is no upper bound.
+pub record Held (p q w : ℕ) : Type 0 where
+  pub positive : 0 < q
+  pub value : q ≤ p
+  pub least : unit ≤ w
+  pub most : w ≤ 16 * unit
+  pub low : w * q ≤ unit * p
+  pub high : w < 16 * unit → unit * p < (w + 1) * q
+
+pub held : (p q : ℕ) → 0 < q → Held (max p q) q (scaledValue p q)
+unfolding scaledValue
+held p q pos =
+    let n : ℕ = unit * max p q / q in
+    let below : n * q ≤ unit * max p q = div-mul-le-self (unit * max p q) q in
+    let least : unit ≤ n = le-div-iff-mul-le pos .1 (mul-le-mul-left unit (le-max-right p q)) in
+    record {
+      positive = pos;
+      value = le-max-right p q;
+      least = omega arith;
+      most = omega arith;
+      low = le-trans (mul-le-mul-right q (min-le-right (16 * unit) n)) below;
+      high = λ h. rw (min-eq-right {n = n} {m = 16 * unit} (omega arith)) (omega (arith, lt-div-mul-add {a = unit * max p q} pos));
+    }
+
+-- Equal fractions have equal values.
+pub value-alike : (p q p' q' : ℕ) → 0 < q → 0 < q' → p * q' ≡ p' * q → scaledValue p q ≡ scaledValue p' q'
+unfolding scaledValue
+value-alike p q p' q' pos pos' e =
+    ap (λ (n : ℕ). min (16 * unit) n)
+    (sym (mul-div-mul-right (unit * max p q) q pos') ∙
+    ap₂ _/_ crossed (mul-comm q q') ∙
+    mul-div-mul-right (unit * max p' q') q' pos)
+  where
+    cases : Dec (q ≤ p) → max p q * q' ≡ max p' q' * q
+    cases (yes h) =
+        rw (max-eq-left h, max-eq-left {n = p'} {m = q'} (le-of-mul-le-mul-right {k = q} (omega (arith, mul-le-mul-right q' h)) pos)) e
+    cases (no h) =
+        let below : p ≤ q = le-of-lt (lt-of-not-le h) in
+        rw (max-eq-right below, max-eq-right {n = p'} {m = q'} (le-of-mul-le-mul-right {k = q} (omega (arith, mul-le-mul-right q' below)) pos))
+        (mul-comm q q')
+
+    crossed : unit * max p q * q' ≡ unit * max p' q' * q
+    crossed = omega (arith, cases (decLe q p))

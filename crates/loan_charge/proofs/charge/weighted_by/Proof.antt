@@ -22,13 +22,14 @@ weighted-term-requires-2 c κs = search needs
 
 -- src/charge.rt:99:15
 add-t6 : tie.Need-add-t6
-add-t6 c = 
-    omega
-    (arith,
-    c .before .weighted-term .ensures,
-    c .weighted-term2 .ensures,
-    term-bound (c .before .before .args .k) (c .before .before .args .c .weight1) (c .before .before .args .h .first) (c .before .before .pre .0) (c .before .before .pre .1) (c .before .before .pre .4),
-    term-bound (c .before .before .args .k) (c .before .before .args .c .plus2) (c .before .before .args .h .second) (c .before .before .pre .0) (omega arith) (c .before .before .pre .5))
+add-t6 c =
+    omega (
+      arith,
+      c .before .weighted-term .ensures,
+      c .weighted-term2 .ensures,
+      term-bound (c .before .before .args .k) (c .before .before .args .c .weight1) (c .before .before .args .h .first) (c .before .before .pre .0) (c .before .before .pre .1) (c .before .before .pre .4),
+      term-bound (c .before .before .args .k) (c .before .before .args .c .plus2) (c .before .before .args .h .second) (c .before .before .pre .0) (omega arith) (c .before .before .pre .5),
+    )
 
 -- src/charge.rt:100:16
 weighted-term-requires-3 : tie.Need-weighted-term-requires-3
@@ -37,7 +38,7 @@ weighted-term-requires-3 c κs = search needs
 -- src/charge.rt:94:1
 returns : tie.Need-returns
 unfolding weighted
-returns c = 
+returns c =
     amounts
     (ap₂ _+_ (c .before .before .weighted-term .ensures) (c .before .weighted-term2 .ensures))
     (c .weighted-term3 .ensures)
