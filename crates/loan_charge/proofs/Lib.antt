@@ -3,3 +3,4 @@ pub mod Gauss
 pub mod Money
 pub mod Near
 pub mod ScaledValue
+pub mod Sizes

@@ -1,8 +1,13 @@
 -- A loan's two numbers in fixed point, as the code computes them. No other crate unfolds these definitions:
 -- what they promise stands in proofs/ChargeLaws.antt.
 use Prim.Native.Nat.{ℕ, _+_, _*_, _-_, _/_, _^_, _≤_, _<_, min, max}
+use mathlib.Core.Bool.{Bool, true, false}
 use Rattle.fixed_point.specs.Quotient.{scaledProduct}
+use Rattle.exponential.specs.Exponential.{expUpper}
+use Rattle.loan_charge.specs.Coefficients.{firstSet}
+use Rattle.loan_charge.specs.Integers.{scaledA, scaledB, scaledC, tenthsB}
 use Rattle.loan_charge.specs.declared.charge.Heights.{Heights}
+use Rattle.loan_charge.specs.declared.charge.LoanCharge.{LoanCharge}
 use Rattle.loan_charge.specs.declared.charge.Signed.{Signed}
 use Rattle.loan_charge.specs.declared.coefficients.ScaledCurve.{ScaledCurve}
 
@@ -25,6 +30,23 @@ deviations w mean deviation = distance w mean * 8192 / deviation
 -- (z - mean)² / (2 deviation²) in units of 2^-38
 unfoldable pub exponent : ℕ → ℕ → ℕ → ℕ
 exponent w mean deviation = scaledProduct (deviations w mean deviation) (deviations w mean deviation) / 8
+
+-- exp(-(z - mean)² / (2 deviation²)), in units of 2^-40, and never below it
+unfoldable pub height : ℕ → ℕ → ℕ → ℕ
+height w mean deviation = expUpper (exponent w mean deviation)
+
+unfoldable pub heights : ℕ → ScaledCurve → Heights
+heights w c = record { first = height w (c .mean1) (c .deviation1); second = height w (c .mean2) (c .deviation2) }
+
+-- what the functions of a curve ask of its whole numbers
+pub record Usable (c : ScaledCurve) : Type 0 where
+  pub weight1 : c .weight1 ≤ 144240
+  pub plus2 : c .plus2 ≤ 50640
+  pub minus2 : c .minus2 ≤ 50640
+  pub mean1 : c .mean1 < 2 ^ 20
+  pub mean2 : c .mean2 < 2 ^ 20
+  pub deviation1 : 8192 ≤ c .deviation1
+  pub deviation2 : 8192 ≤ c .deviation2
 
 -- k (C1 e1 + C2 e2) of a curve, its exponentials in units of 2^-40
 unfoldable pub weighted : ℕ → ScaledCurve → Heights → Signed
@@ -59,3 +81,40 @@ roundedUp x y = signed ((x .plus + y .plus + (100000 * 1200000 + 500 + 1199999) 
 -- an amount in cents, rounded down after a subtraction that covers all errors
 unfoldable pub roundedDown : Signed → Signed
 roundedDown x = signed ((x .plus + (100000 * 1200000 - 11000) - x .minus) / 1200000)
+
+-- the base: A counts 10^7 times and B by the balance in cents, both in 12ths
+unfoldable pub baseUnits : Bool → ℕ → ℕ → ℕ → ℕ → Signed
+baseUnits first w balance months m =
+    times
+    (sum
+    (weighted (10 ^ 7) (scaledA first months) (heights w (scaledA first months)))
+    (weighted balance (scaledB first months) (heights w (scaledB first months))))
+    (factor m)
+
+-- r of the supplement
+unfoldable pub rateUnits : Bool → ℕ → ℕ → ℕ
+rateUnits first w months = rate w (scaledC first months) (tenthsB first months) (expUpper (months * 2 ^ 38 / 120))
+
+abbrev pub none : Signed
+none = record { plus = 0; minus = 0 }
+
+-- both numbers from the base and r, with a supplement or without
+unfoldable pub chargeFrom : Bool → Signed → ℕ → LoanCharge
+chargeFrom true base r = record { total = roundedUp base (times base r); supplement = roundedDown (times base r) }
+chargeFrom false base r = record { total = roundedUp base none; supplement = none }
+
+-- A loan's two numbers: its base plus supplement, and its supplement, in cents. Value over balance is p / q, m is in 10^-17.
+unfoldable pub chargeOf : (p q balance months term : ℕ) (supplement : Bool) (m : ℕ) → LoanCharge
+chargeOf p q balance months term supplement m =
+    chargeFrom supplement
+    (baseUnits (firstSet term) (scaledValue p q) balance months m)
+    (rateUnits (firstSet term) (scaledValue p q) months)
+
+-- the numbers of a loan for which this is a charge
+pub record Chargeable (q balance months m : ℕ) : Type 0 where
+  pub divisor-least : 1 ≤ q
+  pub divisor-most : q ≤ 2 * 10 ^ 16
+  pub balance-most : balance ≤ 2 * 10 ^ 8
+  pub months-least : 1 ≤ months
+  pub months-most : months ≤ 480
+  pub factor-most : m ≤ 3 * 10 ^ 17

@@ -1,9 +1,17 @@
 // A loan's two numbers in fixed point. Each step that multiplies and divides is a function of its own.
 ghost use mathlib.Core.Path.{_≡_};
 ghost use Prim.Native.Nat.{_+_, _*_, _/_, _^_, _<_, _≤_, min};
+ghost use mathlib.Core.Bool.{true, false};
+ghost use Rattle.exponential.specs.Table.{entries};
 ghost use Rattle.fixed_point.specs.Quotient.{scaledProduct};
-ghost use Rattle.loan_charge.specs.Computation.{unit, scaledValue, distance, deviations, exponent, weighted, factor, rate, sum, times, signed, roundedUp, roundedDown};
+ghost use Rattle.loan_charge.specs.Computation.{unit, scaledValue, distance, deviations, exponent, height, heights, Usable, weighted, factor, rate, sum, times, signed, roundedUp, roundedDown, baseUnits, rateUnits, chargeFrom, chargeOf, Chargeable};
+ghost use Rattle.loan_charge.specs.Integers.{Months};
 use super::coefficients::ScaledCurve;
+use super::coefficients::curve_a;
+use super::coefficients::curve_b;
+use super::coefficients::first_set;
+use super::coefficients::rate_b;
+use super::coefficients::rate_c;
 use fixed_point::Division;
 use fixed_point::division_step;
 use fixed_point::scaled_product;
@@ -12,6 +20,12 @@ use fixed_point::scaled_product;
 pub struct Signed {
     pub plus: u64,
     pub minus: u64,
+}
+
+// A loan's base plus supplement, and its supplement, in cents.
+pub struct LoanCharge {
+    pub total: Signed,
+    pub supplement: Signed,
 }
 
 // The two exponentials of a curve, in units of 2^-40.
@@ -82,7 +96,25 @@ fn exponent_of(w: u64, mean: u64, deviation: u64) -> u64
     scaled_product(t, t) / 8
 }
 
-// One term of that.
+// exp(-(z - mean)² / (2 deviation²)), never below it.
+fn height_of(w: u64, mean: u64, deviation: u64, table: &[u64; 1537]) -> u64
+    requires { ⌜ (w ≤ 16 * unit) × (mean < 2 ^ 20) × (8192 ≤ deviation) × (now table ≡ entries) ⌝ }
+    ensures { λ r. ⌜ r ≡ height w mean deviation ⌝ }
+{
+    exponential::exp_upper(exponent_of(w, mean, deviation), table)
+}
+
+fn heights_of(w: u64, c: ScaledCurve, table: &[u64; 1537]) -> Heights
+    requires { ⌜ (w ≤ 16 * unit) × Usable c × (now table ≡ entries) ⌝ }
+    ensures { λ r. ⌜ r ≡ heights w c ⌝ }
+{
+    Heights {
+        first: height_of(w, c.mean1, c.deviation1, table),
+        second: height_of(w, c.mean2, c.deviation2, table),
+    }
+}
+
+// One term of the sum below.
 fn weighted_term(k: u64, weight: u64, e: u64) -> u64
     requires { ⌜ (k ≤ 2 * 10 ^ 8) × (weight ≤ 144240) × (e ≤ 2 ^ 41) ⌝ }
     ensures { λ r. ⌜ r ≡ scaledProduct (k * weight) e ⌝ }
@@ -109,6 +141,14 @@ fn sum_of(x: Signed, y: Signed) -> Signed
         plus: x.plus + y.plus,
         minus: x.minus + y.minus,
     }
+}
+
+// k times the curve at z.
+fn curve_units(k: u64, w: u64, c: ScaledCurve, table: &[u64; 1537]) -> Signed
+    requires { ⌜ (k ≤ 2 * 10 ^ 8) × (w ≤ 16 * unit) × Usable c × (now table ≡ entries) ⌝ }
+    ensures { λ r. ⌜ r ≡ weighted k c (heights w c) ⌝ }
+{
+    weighted_by(k, c, heights_of(w, c, table))
 }
 
 // m, given in 10^-17, in units of 2^-40: by 2^23 / 5^17, which is the same and fits.
@@ -175,4 +215,68 @@ fn rounded_down(x: Signed) -> Signed
     ensures { λ r. ⌜ r ≡ roundedDown x ⌝ }
 {
     without_offset((x.plus + 119999989000 - x.minus) / 1200000)
+}
+
+// The base: A counts 10^7 times and B by the balance in cents, both in 12ths.
+fn base_units(first: bool, w: u64, balance: u64, months: u64, m: u64, table: &[u64; 1537]) -> Signed
+    requires { ⌜ (w ≤ 16 * unit) × (balance ≤ 2 * 10 ^ 8) × Months months × (m ≤ 3 * 10 ^ 17) × (now table ≡ entries) ⌝ }
+    ensures { λ r. ⌜ r ≡ baseUnits first w balance months m ⌝ }
+{
+    let a = curve_units(10000000, w, curve_a(first, months), table);
+    let b = curve_units(balance, w, curve_b(first, months), table);
+    times_rate(sum_of(a, b), factor_of(m))
+}
+
+// r of the supplement.
+fn rate_units(first: bool, w: u64, months: u64, table: &[u64; 1537]) -> u64
+    requires { ⌜ (unit ≤ w) × (w ≤ 16 * unit) × Months months × (now table ≡ entries) ⌝ }
+    ensures { λ r. ⌜ r ≡ rateUnits first w months ⌝ }
+{
+    let e = exponential::exp_upper(months * 274877906944 / 120, table);
+    rate_of(w, rate_c(first, months), rate_b(first, months), e)
+}
+
+fn with_supplement(base: Signed, r: u64) -> LoanCharge
+    requires { ⌜ (base .plus ≤ 119205000000000) × (base .minus ≤ 27150000000) × (r ≤ 2 ^ 41) ⌝ }
+    ensures { λ c. ⌜ c ≡ chargeFrom true base r ⌝ }
+{
+    let supplement = times_rate(base, r);
+    LoanCharge {
+        total: rounded_up(base, supplement),
+        supplement: rounded_down(supplement),
+    }
+}
+
+fn without_supplement(base: Signed) -> LoanCharge
+    requires { ⌜ (base .plus ≤ 119205000000000) × (base .minus ≤ 27150000000) ⌝ }
+    ensures { λ c. ⌜ c ≡ chargeFrom false base 0 ⌝ }
+{
+    LoanCharge {
+        total: rounded_up(base, Signed { plus: 0, minus: 0 }),
+        supplement: Signed { plus: 0, minus: 0 },
+    }
+}
+
+// A loan's two numbers, for value over balance p / q and m in 10^-17.
+pub fn charge(
+    p: u64,
+    q: u64,
+    balance: u64,
+    months: u64,
+    term: u64,
+    supplement: bool,
+    m: u64,
+    table: &[u64; 1537],
+) -> LoanCharge
+    requires { ⌜ Chargeable q balance months m × (now table ≡ entries) ⌝ }
+    ensures { λ r. ⌜ r ≡ chargeOf p q balance months term supplement m ⌝ }
+{
+    let w = scaled_value(p, q);
+    let first = first_set(term);
+    let base = base_units(first, w, balance, months, m, table);
+    if supplement {
+        with_supplement(base, rate_units(first, w, months, table))
+    } else {
+        without_supplement(base)
+    }
 }
