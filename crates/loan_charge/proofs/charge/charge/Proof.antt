@@ -2,6 +2,14 @@ use mathlib.Core.Path.{_≡_, refl, sym, _∙_, ap}
 use Prim.Native.Nat.{ℕ, _+_, _-_, _*_, _≤_, _<_}
 use native.Mathlib.Omega.{arith}
 use lib.ListN.{length, take, drop, getD}
+use mathlib.Core.Path.{ap₂, subst⁻¹}
+use mathlib.Core.Bool.{Bool, true, false}
+use Rattle.loan_charge.specs.Coefficients.{firstSet}
+use Rattle.loan_charge.specs.Computation.{scaledValue, baseUnits, rateUnits, chargeFrom, chargeOf}
+use Rattle.loan_charge.specs.declared.charge.Signed.{Signed}
+use Rattle.loan_charge.proofs.Money.{AtMost}
+use Rattle.loan_charge.proofs.ScaledValue.{held}
+use Rattle.loan_charge.proofs.Sizes.{base-most, rate-units-most}
 use borrow.Author.Needs.{needs}
 use Rattle.loan_charge.proofs.charge.charge.Statement.{statement}
 use Rattle.loan_charge.proofs.charge.charge.Tie as tie
@@ -24,27 +32,52 @@ first-set-requires c κs = search needs
 
 -- src/charge.rt:271:9
 base-units-requires : tie.Need-base-units-requires
-base-units-requires c κs = search needs
+base-units-requires c κs = (
+  omega (arith, c .before .scaled-value .ensures, held (c .before .before .args .p) (c .before .before .args .q) (c .before .before .pre .0 .divisor-least) .most),
+  c .before .before .pre .0 .balance-most,
+  (record { least = c .before .before .pre .0 .months-least; most = c .before .before .pre .0 .months-most }),
+  c .before .before .pre .0 .factor-most,
+  c .before .before .pre .1,
+)
 
 -- src/charge.rt:273:31
 rate-units-requires : tie.Need-rate-units-requires
-rate-units-requires c κs = search needs
+rate-units-requires c κs = (
+  omega (arith, c .before .before .before .scaled-value .ensures, held (c .before .before .before .before .args .p) (c .before .before .before .before .args .q) (c .before .before .before .before .pre .0 .divisor-least) .least),
+  omega (arith, c .before .before .before .scaled-value .ensures, held (c .before .before .before .before .args .p) (c .before .before .before .before .args .q) (c .before .before .before .before .pre .0 .divisor-least) .most),
+  (record { least = c .before .before .before .before .pre .0 .months-least; most = c .before .before .before .before .pre .0 .months-most }),
+  c .before .before .before .before .pre .1,
+)
 
 -- src/charge.rt:273:9
 with-supplement-requires : tie.Need-with-supplement-requires
-with-supplement-requires c κs = search needs
+with-supplement-requires c κs =
+    let b : AtMost 119205000000000 27150000000 (c .before .before .base-units .result) =
+    subst⁻¹ (λ (x : Signed). AtMost 119205000000000 27150000000 x) (c .before .before .base-units .ensures ∙ ap₂ (λ (f : Bool) (w : ℕ). baseUnits f w (c .before .before .before .before .before .args .balance) (c .before .before .before .before .before .args .months) (c .before .before .before .before .before .args .m)) (c .before .before .before .first-set .ensures) (c .before .before .before .before .scaled-value .ensures))
+    (base-most (firstSet (c .before .before .before .before .before .args .term)) (scaledValue (c .before .before .before .before .before .args .p) (c .before .before .before .before .before .args .q)) (c .before .before .before .before .before .args .balance) (c .before .before .before .before .before .args .months) (c .before .before .before .before .before .args .m) (record { least = c .before .before .before .before .before .pre .0 .months-least; most = c .before .before .before .before .before .pre .0 .months-most }) (c .before .before .before .before .before .pre .0 .balance-most) (c .before .before .before .before .before .pre .0 .factor-most)) in
+    (b .plus, b .minus, omega (arith, (c .rate-units .ensures ∙ ap₂ (λ (f : Bool) (w : ℕ). rateUnits f w (c .before .before .before .before .before .args .months)) (c .before .before .before .first-set .ensures) (c .before .before .before .before .scaled-value .ensures)), rate-units-most (firstSet (c .before .before .before .before .before .args .term)) (scaledValue (c .before .before .before .before .before .args .p) (c .before .before .before .before .before .args .q)) (c .before .before .before .before .before .args .months) (record { least = c .before .before .before .before .before .pre .0 .months-least; most = c .before .before .before .before .before .pre .0 .months-most })))
 
 -- src/charge.rt:275:9
 without-supplement-requires : tie.Need-without-supplement-requires
-without-supplement-requires c κs = search needs
+without-supplement-requires c κs =
+    let b : AtMost 119205000000000 27150000000 (c .before .base-units .result) =
+    subst⁻¹ (λ (x : Signed). AtMost 119205000000000 27150000000 x) (c .before .base-units .ensures ∙ ap₂ (λ (f : Bool) (w : ℕ). baseUnits f w (c .before .before .before .before .args .balance) (c .before .before .before .before .args .months) (c .before .before .before .before .args .m)) (c .before .before .first-set .ensures) (c .before .before .before .scaled-value .ensures))
+    (base-most (firstSet (c .before .before .before .before .args .term)) (scaledValue (c .before .before .before .before .args .p) (c .before .before .before .before .args .q)) (c .before .before .before .before .args .balance) (c .before .before .before .before .args .months) (c .before .before .before .before .args .m) (record { least = c .before .before .before .before .pre .0 .months-least; most = c .before .before .before .before .pre .0 .months-most }) (c .before .before .before .before .pre .0 .balance-most) (c .before .before .before .before .pre .0 .factor-most)) in
+    (b .plus, b .minus)
 
 -- src/charge.rt:256:1
 returns : tie.Need-returns
-returns c = search needs
+unfolding chargeOf
+returns c =
+    rw (c .before .before .if1 .taken)
+    (c .with-supplement .ensures ∙ ap₂ (λ (x : Signed) (r : ℕ). chargeFrom true x r) (c .before .before .before .base-units .ensures ∙ ap₂ (λ (f : Bool) (w : ℕ). baseUnits f w (c .before .before .before .before .before .before .args .balance) (c .before .before .before .before .before .before .args .months) (c .before .before .before .before .before .before .args .m)) (c .before .before .before .before .first-set .ensures) (c .before .before .before .before .before .scaled-value .ensures)) (c .before .rate-units .ensures ∙ ap₂ (λ (f : Bool) (w : ℕ). rateUnits f w (c .before .before .before .before .before .before .args .months)) (c .before .before .before .before .first-set .ensures) (c .before .before .before .before .before .scaled-value .ensures)))
 
 -- src/charge.rt:256:1
 returns-2 : tie.Need-returns-2
-returns-2 c = search needs
+unfolding chargeOf chargeFrom
+returns-2 c =
+    rw (c .before .if1 .left)
+    (c .without-supplement .ensures ∙ ap (λ (x : Signed). chargeFrom false x 0) (c .before .before .base-units .ensures ∙ ap₂ (λ (f : Bool) (w : ℕ). baseUnits f w (c .before .before .before .before .before .args .balance) (c .before .before .before .before .before .args .months) (c .before .before .before .before .before .args .m)) (c .before .before .before .first-set .ensures) (c .before .before .before .before .scaled-value .ensures)))
 
 pub charge-spec : {M : Type 1} → statement M
 charge-spec =
