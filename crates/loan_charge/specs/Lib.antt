@@ -1,3 +1,4 @@
+pub mod Charge
 pub mod Coefficients
 pub mod Computation
 pub mod Integers
