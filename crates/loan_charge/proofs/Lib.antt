@@ -1,4 +1,5 @@
 pub mod CoefficientLaws
+pub mod ExactValues
 pub mod Gauss
 pub mod Money
 pub mod Near
