@@ -1,3 +1,4 @@
+pub mod ChargeLaws
 pub mod CoefficientLaws
 pub mod ExactValues
 pub mod Gauss

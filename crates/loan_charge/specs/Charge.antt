@@ -2,9 +2,11 @@
 use Prim.Native.Nat.{ℕ, _^_}
 use mathlib.Core.Bool.{Bool, true, false}
 use mathlib.Core.List.{List, [], _∷_, _++_}
-use Rattle.exact.specs.Fraction.{Fraction, quotient, whole, reciprocal, larger, smaller, _⊕_, _⊖_, _⊗_}
+use Rattle.exact.specs.Fraction.{Fraction, Proper, quotient, whole, reciprocal, larger, smaller, _⊕_, _⊖_, _⊗_, _≼_, _≺_}
 use Rattle.exact.specs.Quantity.{Assignment, Quantity}
 use Rattle.loan_charge.specs.Coefficients.{Curve, upTo, firstSet, curveA, curveB, rateC, rateB}
+use Rattle.loan_charge.specs.declared.charge.LoanCharge.{LoanCharge}
+use Rattle.loan_charge.specs.declared.charge.Signed.{Signed}
 
 -- 000, 1.1.5: z = p / q, value over balance, or 1 if that is less (1 / LTV, with LTV at most 100%)
 unfoldable pub valueRatio : ℕ → ℕ → Fraction
@@ -78,3 +80,21 @@ supplementQuantity p q balance months term supplement m = record {
   exponents = supplementExponents supplement (firstSet term) (valueRatio p q) months;
   value = exactSupplement supplement (firstSet term) (valueRatio p q) balance months m;
 }
+
+-- plus - minus cents
+abbrev pub signedCents : Signed → Fraction
+signedCents x = record { plus = x .plus; minus = x .minus; over = 1 }
+
+-- 1.05 cents; document 01 asks for 2
+abbrev pub distance : Fraction
+distance = quotient 105 100
+
+-- A loan's two numbers beside the exact ones: the total is never below and less than `distance` above, the supplement never above
+-- and less than `distance` below.
+pub record NearExact (charge : LoanCharge) (total supplement : Fraction) : Type 0 where
+  pub total-proper : Proper total
+  pub total-at-least : total ≼ signedCents (charge .total)
+  pub total-near : signedCents (charge .total) ≺ total ⊕ distance
+  pub supplement-proper : Proper supplement
+  pub supplement-at-most : signedCents (charge .supplement) ≼ supplement
+  pub supplement-near : supplement ⊖ distance ≺ signedCents (charge .supplement)
