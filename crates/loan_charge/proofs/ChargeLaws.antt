@@ -2,21 +2,25 @@
 -- Assumes nothing.
 use mathlib.Core.Path.{_≡_, refl, ap}
 use mathlib.Core.Bool.{Bool, true, false}
+use mathlib.Core.List.{List, [], _∷_, _++_, List·Memᴰ, List·Memᴰ·not-nil, List·Memᴰ·cases-cons, List·Memᴰ·append-cases}
+use mathlib.Core.Logic.{⊎-elim}
+use lib.Dec.{leb}
 use Prim.Native.Nat.{ℕ, _+_, _*_, _-_, _/_, _^_, _≤_, _<_, max}
 use native.Mathlib.Omega.{arith}
 use native.Mathlib.Nat.{mul-pos, le-trans, le-max-left, le-max-right, mul-le-mul}
 use Rattle.exact.specs.Fraction.{Fraction, Proper, quotient, whole, _⊕_, _⊖_, _⊗_, _≼_, _≺_, _≈_}
 use Rattle.exact.specs.Exponential.{bracketHigh}
-use Rattle.exact.specs.Quantity.{Assignment, Eventually}
+use Rattle.exact.specs.Quantity.{Assignment, Quantity, Exponent, Eventually}
 use Rattle.exact.proofs.Fractions
 use Rattle.exact.proofs.Bridge.{At, high-is, high-proper}
+use Rattle.exact.proofs.Quantities.{Exponents, takes, mapped, some-allowed}
 use Rattle.exact.proofs.Sums.{num, den, num-pos}
 use Rattle.exponential.specs.Exponential.{expUpper}
 use Rattle.exponential.proofs.Laws as Exponential
-use Rattle.loan_charge.specs.Coefficients.{Curve, firstSet, curveA, curveB, rateC, rateB}
+use Rattle.loan_charge.specs.Coefficients.{Curve, pick, firstSet, curveA, curveB, rateC, rateB}
 use Rattle.loan_charge.specs.Integers.{Months, scaledA, scaledB, scaledC, tenthsB}
-use Rattle.loan_charge.specs.Charge.{valueRatio, exponent1, exponent2, curveValue, exactBase, exactLimited, exactRate, exactSupplement, exactTotal, signedCents, distance, NearExact}
-use Rattle.loan_charge.specs.Computation.{scaledValue, height, heights, weighted, factor, rate, sum, times, roundedUp, roundedDown, none, baseUnits, rateUnits, chargeFrom, chargeOf, Chargeable}
+use Rattle.loan_charge.specs.Charge.{valueRatio, exponent1, exponent2, curveValue, exactBase, exactLimited, exactRate, exactSupplement, exactTotal, baseExponents, rateExponents, totalExponents, supplementExponents, totalQuantity, supplementQuantity, signedCents, distance, NearExact, Promised, InRange}
+use Rattle.loan_charge.specs.Computation.{scaledValue, signed, height, heights, weighted, factor, rate, sum, times, roundedUp, roundedDown, none, baseUnits, rateUnits, chargeFrom, chargeOf, Chargeable}
 use Rattle.loan_charge.specs.declared.coefficients.ScaledCurve.{ScaledCurve}
 use Rattle.loan_charge.specs.declared.charge.Heights.{Heights}
 use Rattle.loan_charge.specs.declared.charge.LoanCharge.{LoanCharge}
@@ -342,3 +346,126 @@ module _ (p q balance months term m : ℕ) (c : Chargeable q balance months m) w
   unfolding chargeOf exactTotal exactSupplement
   charge-near true = record { from = start; holds = λ k l. together (base-at k l) (rate-at k l) }
   charge-near false = record { from = start; holds = λ k l. alone (base-at k l) (rateUnits (firstSet term) (scaledValue p q) months) }
+
+-- Every exponent in the charge is a fraction at or above 0.
+
+exponent-of : {u : ℕ} {y : Fraction} → Enclosed u y → Exponent y
+exponent-of e = record {
+  proper = e .at .proper;
+  nonnegative =
+      Fractions.nonnegative-same (Fractions.proper-quotient (e .a) (e .at .positive)) (e .at .proper) (Fractions.same-sym (e .at .same))
+      (record { above = omega arith }) .above;
+}
+
+no-exponents : Exponents []
+no-exponents y k = absurd (List·Memᴰ·not-nil k)
+
+more-exponents : {y : Fraction} {ys : List Fraction} → Exponent y → Exponents ys → Exponents (y ∷ ys)
+more-exponents h hs y k = ⊎-elim (λ e. rw e h) (λ k'. hs y k') (List·Memᴰ·cases-cons k)
+
+appended-exponents : (xs : List Fraction) {ys : List Fraction} → Exponents xs → Exponents ys → Exponents (xs ++ ys)
+appended-exponents xs hx hy y k = ⊎-elim (λ k'. hx y k') (λ k'. hy y k') (List·Memᴰ·append-cases xs k)
+
+rate-exponents : (first : Bool) (months : ℕ) → Exponents (rateExponents first months)
+unfolding rateExponents
+rate-exponents true months = go (leb months 120)
+  where
+    go : (t : Bool) → Exponents (pick t (quotient months 120 ∷ []) [])
+    go true = more-exponents (exponent-of (months-enclosed months)) no-exponents
+    go false = no-exponents
+rate-exponents false months = more-exponents (exponent-of (months-enclosed months)) no-exponents
+
+module _ (p q balance months term m : ℕ) (c : Chargeable q balance months m) where
+  base-exponents : Exponents (baseExponents (firstSet term) (valueRatio p q) months)
+  unfolding baseExponents
+  base-exponents =
+      more-exponents (exponent-of (A₁ p q balance months term m c))
+      (more-exponents (exponent-of (A₂ p q balance months term m c))
+      (more-exponents (exponent-of (B₁ p q balance months term m c))
+      (more-exponents (exponent-of (B₂ p q balance months term m c)) no-exponents)))
+
+  all-exponents : Exponents (baseExponents (firstSet term) (valueRatio p q) months ++ rateExponents (firstSet term) months)
+  all-exponents = appended-exponents (baseExponents (firstSet term) (valueRatio p q) months) base-exponents (rate-exponents (firstSet term) months)
+
+  total-exponents : (supplement : Bool) → Exponents (totalExponents supplement (firstSet term) (valueRatio p q) months)
+  unfolding totalExponents
+  total-exponents true = all-exponents
+  total-exponents false = base-exponents
+
+  supplement-exponents : (supplement : Bool) → Exponents (supplementExponents supplement (firstSet term) (valueRatio p q) months)
+  unfolding supplementExponents
+  supplement-exponents true = all-exponents
+  supplement-exponents false = no-exponents
+
+  module _ (supplement : Bool) (g : Fraction) (proper : Proper g) (wide : distance ≼ g) where
+    abbrev r : LoanCharge
+    r = chargeOf p q balance months term supplement m
+
+    abbrev total : Quantity
+    total = totalQuantity p q balance months term supplement m
+
+    abbrev part : Quantity
+    part = supplementQuantity p q balance months term supplement m
+
+    wider-total : {v : Fraction} → Proper v → signedCents (r .total) ≺ v ⊕ distance → signedCents (r .total) ≺ v ⊕ g
+    wider-total {v} pv h =
+        Fractions.below-at-most (Fractions.proper-sum pv (record { positive = omega arith })) (Fractions.proper-sum pv proper) h
+        (Fractions.at-most-sum (Fractions.at-most-refl v) wide)
+
+    wider-supplement : {v : Fraction} → Proper v → v ⊖ distance ≺ signedCents (r .supplement) → v ⊖ g ≺ signedCents (r .supplement)
+    wider-supplement {v} pv h =
+        Fractions.at-most-below (Fractions.proper-sum pv (Fractions.proper-negated proper)) (Fractions.proper-sum pv (record { positive = omega arith }))
+        (Fractions.at-most-sum (Fractions.at-most-refl v) (Fractions.at-most-negated wide)) h
+
+    -- document 01's statements
+    pub promised : Promised r total part g
+    promised =
+        let law = charge-near p q balance months term m c supplement in
+        record {
+          total-at-least = takes total (λ v. v ≼ signedCents (r .total)) (total-exponents supplement) (mapped (λ k n. (n .total-proper, n .total-at-least)) law);
+          total-near = takes total (λ v. signedCents (r .total) ≺ v ⊕ g) (total-exponents supplement) (mapped (λ k n. (n .total-proper, wider-total (n .total-proper) (n .total-near))) law);
+          total-orders = some-allowed (total .exponents) (total-exponents supplement);
+          supplement-at-most = takes part (λ v. signedCents (r .supplement) ≼ v) (supplement-exponents supplement) (mapped (λ k n. (n .supplement-proper, n .supplement-at-most)) law);
+          supplement-near = takes part (λ v. v ⊖ g ≺ signedCents (r .supplement)) (supplement-exponents supplement) (mapped (λ k n. (n .supplement-proper, wider-supplement (n .supplement-proper) (n .supplement-near))) law);
+          supplement-orders = some-allowed (part .exponents) (supplement-exponents supplement);
+        }
+
+  -- Both numbers are small.
+
+  up-range : (x y : Signed) → x .plus ≤ 119205000000000 → y .plus ≤ 238410000000000 → InRange (roundedUp x y)
+  unfolding roundedUp signed
+  up-range x y h k = record { most = omega arith; least = omega arith; one-sided = omega arith }
+
+  down-range : (x : Signed) → x .plus ≤ 238410000000000 → InRange (roundedDown x)
+  unfolding roundedDown signed
+  down-range x h = record { most = omega arith; least = omega arith; one-sided = omega arith }
+
+  base-small : AtMost 119205000000000 27150000000 (baseUnits (firstSet term) (scaledValue p q) balance months m)
+  base-small = base-most (firstSet term) (scaledValue p q) balance months m (months-in p q balance months term m c) (c .balance-most) (c .factor-most)
+
+  supplement-small : AtMost 238410000000000 54300000000 (times (baseUnits (firstSet term) (scaledValue p q) balance months m) (rateUnits (firstSet term) (scaledValue p q) months))
+  supplement-small = supplement-most base-small (rate-units-most (firstSet term) (scaledValue p q) months (months-in p q balance months term m c))
+
+  pub charge-range : (supplement : Bool) →
+      InRange (chargeOf p q balance months term supplement m .total) × InRange (chargeOf p q balance months term supplement m .supplement)
+  unfolding chargeOf chargeFrom
+  charge-range true = (
+    up-range (baseUnits (firstSet term) (scaledValue p q) balance months m) (times (baseUnits (firstSet term) (scaledValue p q) balance months m) (rateUnits (firstSet term) (scaledValue p q) months)) (base-small .plus) (supplement-small .plus),
+    down-range (times (baseUnits (firstSet term) (scaledValue p q) balance months m) (rateUnits (firstSet term) (scaledValue p q) months)) (supplement-small .plus),
+  )
+  charge-range false = (
+    up-range (baseUnits (firstSet term) (scaledValue p q) balance months m) none (base-small .plus) (omega arith),
+    record { most = omega arith; least = omega arith; one-sided = omega arith },
+  )
+
+-- Where no supplement applies its number is 0.
+pub no-supplement : (p q balance months term m : ℕ) → chargeOf p q balance months term false m .supplement ≡ none
+unfolding chargeOf chargeFrom
+no-supplement p q balance months term m = refl
+
+-- Equal fractions p / q have equal charges.
+pub charge-alike : (p q p' q' balance months term : ℕ) (supplement : Bool) (m : ℕ) → 0 < q → 0 < q' → p * q' ≡ p' * q →
+    chargeOf p q balance months term supplement m ≡ chargeOf p' q' balance months term supplement m
+unfolding chargeOf
+charge-alike p q p' q' balance months term supplement m pos pos' e =
+    ap (λ (w : ℕ). chargeFrom supplement (baseUnits (firstSet term) w balance months m) (rateUnits (firstSet term) w months)) (value-alike p q p' q' pos pos' e)

@@ -1,9 +1,10 @@
 -- The exact charge of a loan in cents (document 01, "The loan charge"; 000, 1.1.2, 1.1.3 and 1.1.5), once each exp(-y) has a value.
-use Prim.Native.Nat.{ℕ, _^_}
+use Prim.Native.Nat.{ℕ, _*_, _^_, _≤_, min}
+use mathlib.Core.Path.{_≡_}
 use mathlib.Core.Bool.{Bool, true, false}
 use mathlib.Core.List.{List, [], _∷_, _++_}
 use Rattle.exact.specs.Fraction.{Fraction, Proper, quotient, whole, reciprocal, larger, smaller, _⊕_, _⊖_, _⊗_, _≼_, _≺_}
-use Rattle.exact.specs.Quantity.{Assignment, Quantity}
+use Rattle.exact.specs.Quantity.{Assignment, Quantity, AtMost, ExceedsByLess, NeverAbove, LessBelow, SomeAllowed}
 use Rattle.loan_charge.specs.Coefficients.{Curve, upTo, firstSet, curveA, curveB, rateC, rateB}
 use Rattle.loan_charge.specs.declared.charge.LoanCharge.{LoanCharge}
 use Rattle.loan_charge.specs.declared.charge.Signed.{Signed}
@@ -98,3 +99,18 @@ pub record NearExact (charge : LoanCharge) (total supplement : Fraction) : Type 
   pub supplement-proper : Proper supplement
   pub supplement-at-most : signedCents (charge .supplement) ≼ supplement
   pub supplement-near : supplement ⊖ distance ≺ signedCents (charge .supplement)
+
+-- The same in document 01's words, for every order allowed, with g for the distance; and some order is allowed.
+pub record Promised (charge : LoanCharge) (total supplement : Quantity) (g : Fraction) : Type 0 where
+  pub total-at-least : AtMost total (signedCents (charge .total))
+  pub total-near : ExceedsByLess total g (signedCents (charge .total))
+  pub total-orders : SomeAllowed (total .exponents)
+  pub supplement-at-most : NeverAbove supplement (signedCents (charge .supplement))
+  pub supplement-near : LessBelow supplement g (signedCents (charge .supplement))
+  pub supplement-orders : SomeAllowed (supplement .exponents)
+
+-- a number of cents from -100,000 to 300,000,000; plus or minus is 0
+pub record InRange (x : Signed) : Type 0 where
+  pub most : x .plus ≤ 3 * 10 ^ 8
+  pub least : x .minus ≤ 10 ^ 5
+  pub one-sided : min (x .plus) (x .minus) ≡ 0
