@@ -19,7 +19,7 @@ use Rattle.exponential.specs.Exponential.{expUpper}
 use Rattle.exponential.proofs.Laws as Exponential
 use Rattle.loan_charge.specs.Coefficients.{Curve, pick, firstSet, curveA, curveB, rateC, rateB}
 use Rattle.loan_charge.specs.Integers.{Months, scaledA, scaledB, scaledC, tenthsB}
-use Rattle.loan_charge.specs.Charge.{valueRatio, exponent1, exponent2, curveValue, exactBase, exactLimited, exactRate, exactSupplement, exactTotal, baseExponents, rateExponents, totalExponents, supplementExponents, totalQuantity, supplementQuantity, signedCents, distance, NearExact, Promised, InRange}
+use Rattle.loan_charge.specs.Charge.{valueRatio, exponent1, exponent2, curveValue, exactBase, rateA, exactRate, exactSupplement, exactTotal, baseExponents, rateExponents, totalExponents, supplementExponents, totalQuantity, supplementQuantity, signedCents, tolerance, NearExact, Promised, InRange}
 use Rattle.loan_charge.specs.Computation.{scaledValue, signed, height, heights, weighted, factor, rate, sum, times, roundedUp, roundedDown, none, baseUnits, rateUnits, chargeFrom, chargeOf, Chargeable}
 use Rattle.loan_charge.specs.declared.coefficients.ScaledCurve.{ScaledCurve}
 use Rattle.loan_charge.specs.declared.charge.Heights.{Heights}
@@ -42,18 +42,18 @@ module _ {v : Fraction} {np nm d : ℕ} (pv : Proper v) (pos : 0 < d) (same : v 
   above-exact : Above r np nm d → v ≼ signedCents r
   above-exact a = Fractions.at-most-trans cents-proper (Fractions.at-most-of-same same) (record { crossed = omega (arith, a .low) })
 
-  above-near : Above r np nm d → signedCents r ≺ v ⊕ distance
+  above-near : Above r np nm d → signedCents r ≺ v ⊕ tolerance
   above-near a =
       Fractions.below-at-most
       (Fractions.proper-sum cents-proper (record { positive = omega arith }))
       (Fractions.proper-sum pv (record { positive = omega arith }))
       (record { crossed = omega (arith, a .high) })
-      (Fractions.at-most-sum (Fractions.at-most-of-same (Fractions.same-sym same)) (Fractions.at-most-refl distance))
+      (Fractions.at-most-sum (Fractions.at-most-of-same (Fractions.same-sym same)) (Fractions.at-most-refl tolerance))
 
   below-exact : Below r np nm d → signedCents r ≼ v
   below-exact b = Fractions.at-most-trans cents-proper (record { crossed = omega (arith, b .high) }) (Fractions.at-most-of-same (Fractions.same-sym same))
 
-  below-near : Below r np nm d → v ⊖ distance ≺ signedCents r
+  below-near : Below r np nm d → v ⊖ tolerance ≺ signedCents r
   below-near b =
       Fractions.at-most-below
       (Fractions.proper-sum pv (record { positive = omega arith }))
@@ -284,7 +284,7 @@ module _ (p q : ℕ) (pos : 0 < q) where
     -- r at one order
     module _ (v : Valued (expUpper (months * 2 ^ 38 / 120)) (exp (quotient months 120))) where
       supplement-rate-near : RateNear (rateUnits first w months) (exactRate first z months exp)
-      unfolding rateUnits exactRate exactLimited
+      unfolding rateUnits exactRate rateA
       supplement-rate-near =
           let c = scaled-c months hm first in
           let b = tenths-b months hm first in
@@ -397,7 +397,7 @@ module _ (p q balance months term m : ℕ) (c : Chargeable q balance months m) w
   supplement-exponents true = all-exponents
   supplement-exponents false = no-exponents
 
-  module _ (supplement : Bool) (g : Fraction) (proper : Proper g) (wide : distance ≼ g) where
+  module _ (supplement : Bool) (g : Fraction) (proper : Proper g) (wide : tolerance ≼ g) where
     abbrev r : LoanCharge
     r = chargeOf p q balance months term supplement m
 
@@ -407,12 +407,12 @@ module _ (p q balance months term m : ℕ) (c : Chargeable q balance months m) w
     abbrev part : Quantity
     part = supplementQuantity p q balance months term supplement m
 
-    wider-total : {v : Fraction} → Proper v → signedCents (r .total) ≺ v ⊕ distance → signedCents (r .total) ≺ v ⊕ g
+    wider-total : {v : Fraction} → Proper v → signedCents (r .total) ≺ v ⊕ tolerance → signedCents (r .total) ≺ v ⊕ g
     wider-total {v} pv h =
         Fractions.below-at-most (Fractions.proper-sum pv (record { positive = omega arith })) (Fractions.proper-sum pv proper) h
         (Fractions.at-most-sum (Fractions.at-most-refl v) wide)
 
-    wider-supplement : {v : Fraction} → Proper v → v ⊖ distance ≺ signedCents (r .supplement) → v ⊖ g ≺ signedCents (r .supplement)
+    wider-supplement : {v : Fraction} → Proper v → v ⊖ tolerance ≺ signedCents (r .supplement) → v ⊖ g ≺ signedCents (r .supplement)
     wider-supplement {v} pv h =
         Fractions.at-most-below (Fractions.proper-sum pv (Fractions.proper-negated proper)) (Fractions.proper-sum pv (record { positive = omega arith }))
         (Fractions.at-most-sum (Fractions.at-most-refl v) (Fractions.at-most-negated wide)) h

@@ -12,7 +12,7 @@ use Rattle.exact.proofs.Fractions.{Positive}
 use Rattle.exact.proofs.Bridge.{At}
 use Rattle.exact.specs.Quantity.{Assignment}
 use Rattle.loan_charge.specs.Coefficients.{Curve, curveA, curveB, rateC, rateB}
-use Rattle.loan_charge.specs.Charge.{valueRatio, gaussExponent, exponent1, exponent2, curveValue, exactBase, exactLimited, exactRate}
+use Rattle.loan_charge.specs.Charge.{valueRatio, gaussExponent, exponent1, exponent2, curveValue, exactBase, rateA, exactRate}
 use Rattle.loan_charge.specs.declared.coefficients.ScaledCurve.{ScaledCurve}
 use Rattle.loan_charge.proofs.CoefficientLaws.{Scaled, ScaledSigned, ScaledCurveOf}
 use Rattle.loan_charge.proofs.Gauss.{exactDistance, exponentNum, exponentDen}

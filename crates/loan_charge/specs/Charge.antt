@@ -34,12 +34,12 @@ exactBase first z balance months m exp =
     (curveValue (curveA first months) z exp ⊕ curveValue (curveB first months) z exp ⊗ quotient balance 10000000)
 
 -- 000, 1.1.3: a = the smaller of c + 0.1 (z - 1) and 1.15
-unfoldable pub exactLimited : (first : Bool) (z : Fraction) (months : ℕ) → Fraction
-exactLimited first z months = smaller (rateC first months ⊕ quotient 1 10 ⊗ (z ⊖ whole 1)) (quotient 115 100)
+unfoldable pub rateA : (first : Bool) (z : Fraction) (months : ℕ) → Fraction
+rateA first z months = smaller (rateC first months ⊕ quotient 1 10 ⊗ (z ⊖ whole 1)) (quotient 115 100)
 
 -- 000, 1.1.3: r = a + b × exp(-0.1 T*), where T* is months / 12
 unfoldable pub exactRate : (first : Bool) (z : Fraction) (months : ℕ) → Assignment → Fraction
-exactRate first z months exp = exactLimited first z months ⊕ rateB first months ⊗ exp (quotient months 120)
+exactRate first z months exp = rateA first z months ⊕ rateB first months ⊗ exp (quotient months 120)
 
 -- the exponents in r: none where b is 0
 unfoldable pub rateExponents : (first : Bool) (months : ℕ) → List Fraction
@@ -87,20 +87,20 @@ abbrev pub signedCents : Signed → Fraction
 signedCents x = record { plus = x .plus; minus = x .minus; over = 1 }
 
 -- 1.05 cents; document 01 asks for 2
-abbrev pub distance : Fraction
-distance = quotient 105 100
+abbrev pub tolerance : Fraction
+tolerance = quotient 105 100
 
--- A loan's two numbers beside the exact ones: the total is never below and less than `distance` above, the supplement never above
--- and less than `distance` below.
+-- A loan's two numbers beside the exact ones: the total is never below and less than `tolerance` above, the supplement never above
+-- and less than `tolerance` below.
 pub record NearExact (charge : LoanCharge) (total supplement : Fraction) : Type 0 where
   pub total-proper : Proper total
   pub total-at-least : total ≼ signedCents (charge .total)
-  pub total-near : signedCents (charge .total) ≺ total ⊕ distance
+  pub total-near : signedCents (charge .total) ≺ total ⊕ tolerance
   pub supplement-proper : Proper supplement
   pub supplement-at-most : signedCents (charge .supplement) ≼ supplement
-  pub supplement-near : supplement ⊖ distance ≺ signedCents (charge .supplement)
+  pub supplement-near : supplement ⊖ tolerance ≺ signedCents (charge .supplement)
 
--- The same in document 01's words, for every order allowed, with g for the distance; and some order is allowed.
+-- The same in document 01's words, for every order allowed, with g for the tolerance; and some order is allowed.
 pub record Promised (charge : LoanCharge) (total supplement : Quantity) (g : Fraction) : Type 0 where
   pub total-at-least : AtMost total (signedCents (charge .total))
   pub total-near : ExceedsByLess total g (signedCents (charge .total))

@@ -29,9 +29,9 @@ pub struct LoanCharge {
 }
 
 // The two exponentials of a curve, in units of 2^-40.
-pub struct Heights {
-    pub first: u64,
-    pub second: u64,
+struct Heights {
+    first: u64,
+    second: u64,
 }
 
 const UNIT: u64 = 16106127360000;
