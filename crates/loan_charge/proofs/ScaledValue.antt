@@ -31,15 +31,15 @@ quotient-bound {F} {p} {q} {d} h k =
     (lt-of-le-of-lt zero-le (h .small))
 
 -- a step of the long division may be taken
-pub step-fits : {F p q : ℕ} {d : Division} (f : ℕ) → Divided F p q d → p ≤ 16 * q → q ≤ 2 * 10 ^ 16 → f ≤ 512 → 16 * F * f < 2 ^ 62 →
+pub step-fits : {F p q : ℕ} {d : Division} (f : ℕ) → Divided F p q d → p ≤ 16 * q → q * f < 2 ^ 64 → 16 * F * f < 2 ^ 62 → f < 2 ^ 62 →
     (d .remainder < q) × (q * f < 2 ^ 64) × (d .quotient * f < 2 ^ 62) × (f < 2 ^ 62)
-step-fits {F} {p} {q} {d} f h k small f-small fits =
-    (h .small, omega (arith, mul-le-mul-left q f-small), lt-of-le-of-lt (mul-le-mul-right f (quotient-bound h k)) fits, omega arith)
+step-fits {F} {p} {q} {d} f h k divisor-fits fits f-fits =
+    (h .small, divisor-fits, lt-of-le-of-lt (mul-le-mul-right f (quotient-bound h k)) fits, f-fits)
 
 pub quotient-is : {F p q : ℕ} {d : Division} → Divided F p q d → d .quotient ≡ F * p / q
 quotient-is {F} {p} {q} {d} h = sym (div-eq-of-lt-le q (omega (arith, h .whole)) (omega (arith, h .whole, h .small)))
 
--- A division begun, and carried on by the factors 400, 300 and three times 512.
+-- A division begun, and carried on by the factors 400, 300 and three times 512, or by 120000 and 2^27.
 
 pub begun : (q : ℕ) (d : Division) → d .remainder < q → Divided 1 (d .quotient * q + d .remainder) q d
 begun q d h = record { whole = omega arith; small = h }
@@ -65,6 +65,10 @@ step₄ h e₁ e₂ e₃ e₄ = divided-step 512 (step₃ h e₁ e₂ e₃) e₄
 pub step₅ : {P q : ℕ} {d d₁ d₂ d₃ d₄ d₅ : Division} → Divided 1 P q d → d₁ ≡ divisionStep d q 400 → d₂ ≡ divisionStep d₁ q 300 →
     d₃ ≡ divisionStep d₂ q 512 → d₄ ≡ divisionStep d₃ q 512 → d₅ ≡ divisionStep d₄ q 512 → Divided unit P q d₅
 step₅ h e₁ e₂ e₃ e₄ e₅ = divided-step 512 (step₄ h e₁ e₂ e₃ e₄) e₅
+
+pub short-step : {P q : ℕ} {d d₁ d₂ : Division} → Divided 1 P q d → d₁ ≡ divisionStep d q 120000 → d₂ ≡ divisionStep d₁ q 134217728 →
+    Divided unit P q d₂
+short-step h e₁ e₂ = divided-step 134217728 (divided-step 120000 h e₁) e₂
 
 -- The three cases of the value.
 

@@ -49,6 +49,16 @@ fn refine(d: Division, q: u64) -> u64
     d5.quotient
 }
 
+// The same in two steps, where the divisor leaves room for their factors.
+fn refine_short(d: Division, q: u64) -> u64
+    requires { ⌜ (d .quotient < 16) × (d .remainder < q) × (q < 2 ^ 36) ⌝ }
+    ensures { λ r. ⌜ r ≡ unit * (d .quotient * q + d .remainder) / q ⌝ }
+{
+    let d1 = division_step(d, q, 120000);
+    let d2 = division_step(d1, q, 134217728);
+    d2.quotient
+}
+
 // z = p / q within 1 and 16, in units of 1 / UNIT.
 fn scaled_value(p: u64, q: u64) -> u64
     requires { ⌜ (0 < q) × (q ≤ 2 * 10 ^ 16) ⌝ }
@@ -61,13 +71,15 @@ fn scaled_value(p: u64, q: u64) -> u64
     if 16 <= z {
         return 16 * UNIT;
     }
-    refine(
-        Division {
-            quotient: z,
-            remainder: p % q,
-        },
-        q,
-    )
+    let d = Division {
+        quotient: z,
+        remainder: p % q,
+    };
+    if q < 68719476736 {
+        refine_short(d, q)
+    } else {
+        refine(d, q)
+    }
 }
 
 // The distance of z from a mean in 120000ths.

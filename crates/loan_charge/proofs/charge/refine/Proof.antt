@@ -16,37 +16,37 @@ division-step-requires c κs = search needs
 
 -- src/charge.rt:21:9
 division-step-requires-2 : tie.Need-division-step-requires-2
-division-step-requires-2 c κs =
+division-step-requires-2 c κs = 
     step-fits 300 (step₁ (begun (c .before .args .q) (c .before .args .d) (c .before .pre .1)) (c .division-step .ensures))
     (begun-bound (c .before .args .q) (c .before .args .d) (c .before .pre .1) (c .before .pre .0))
-    (c .before .pre .2)
+    (omega arith)
     (omega arith)
     (omega arith)
 
 -- src/charge.rt:22:9
 division-step-requires-3 : tie.Need-division-step-requires-3
-division-step-requires-3 c κs =
+division-step-requires-3 c κs = 
     step-fits 512 (step₂ (begun (c .before .before .args .q) (c .before .before .args .d) (c .before .before .pre .1)) (c .before .division-step .ensures) (c .division-step2 .ensures))
     (begun-bound (c .before .before .args .q) (c .before .before .args .d) (c .before .before .pre .1) (c .before .before .pre .0))
-    (c .before .before .pre .2)
+    (omega arith)
     (omega arith)
     (omega arith)
 
 -- src/charge.rt:23:9
 division-step-requires-4 : tie.Need-division-step-requires-4
-division-step-requires-4 c κs =
+division-step-requires-4 c κs = 
     step-fits 512 (step₃ (begun (c .before .before .before .args .q) (c .before .before .before .args .d) (c .before .before .before .pre .1)) (c .before .before .division-step .ensures) (c .before .division-step2 .ensures) (c .division-step3 .ensures))
     (begun-bound (c .before .before .before .args .q) (c .before .before .before .args .d) (c .before .before .before .pre .1) (c .before .before .before .pre .0))
-    (c .before .before .before .pre .2)
+    (omega arith)
     (omega arith)
     (omega arith)
 
 -- src/charge.rt:24:9
 division-step-requires-5 : tie.Need-division-step-requires-5
-division-step-requires-5 c κs =
+division-step-requires-5 c κs = 
     step-fits 512 (step₄ (begun (c .before .before .before .before .args .q) (c .before .before .before .before .args .d) (c .before .before .before .before .pre .1)) (c .before .before .before .division-step .ensures) (c .before .before .division-step2 .ensures) (c .before .division-step3 .ensures) (c .division-step4 .ensures))
     (begun-bound (c .before .before .before .before .args .q) (c .before .before .before .before .args .d) (c .before .before .before .before .pre .1) (c .before .before .before .before .pre .0))
-    (c .before .before .before .before .pre .2)
+    (omega arith)
     (omega arith)
     (omega arith)
 
