@@ -2,12 +2,12 @@
 -- Assumes nothing.
 use mathlib.Core.Path.{_≡_, refl, ap}
 use mathlib.Core.Bool.{Bool, true, false}
-use mathlib.Core.List.{List, [], _∷_, _++_, List·Memᴰ, List·Memᴰ·not-nil, List·Memᴰ·cases-cons, List·Memᴰ·append-cases}
+use mathlib.Core.List.{List, [], _∷_, _++_, List·Memᴰ·not-nil, List·Memᴰ·cases-cons, List·Memᴰ·append-cases}
 use mathlib.Core.Logic.{⊎-elim}
 use lib.Dec.{leb}
-use Prim.Native.Nat.{ℕ, _+_, _*_, _-_, _/_, _^_, _≤_, _<_, max}
+use Prim.Native.Nat.{ℕ, _+_, _*_, _/_, _^_, _≤_, _<_, max}
 use native.Mathlib.Omega.{arith}
-use native.Mathlib.Nat.{mul-pos, le-trans, le-max-left, le-max-right, mul-le-mul}
+use native.Mathlib.Nat.{mul-pos, mul-le-mul}
 use Rattle.exact.specs.Fraction.{Fraction, Proper, quotient, whole, _⊕_, _⊖_, _⊗_, _≼_, _≺_, _≈_}
 use Rattle.exact.specs.Exponential.{bracketHigh}
 use Rattle.exact.specs.Quantity.{Assignment, Quantity, Exponent, Eventually}
@@ -17,20 +17,19 @@ use Rattle.exact.proofs.Quantities.{Exponents, takes, mapped, some-allowed}
 use Rattle.exact.proofs.Sums.{num, den, num-pos}
 use Rattle.exponential.specs.Exponential.{expUpper}
 use Rattle.exponential.proofs.Laws as Exponential
-use Rattle.loan_charge.specs.Coefficients.{Curve, pick, firstSet, curveA, curveB, rateC, rateB}
+use Rattle.loan_charge.specs.Coefficients.{Curve, pick, firstSet, curveA, curveB}
 use Rattle.loan_charge.specs.Integers.{Months, scaledA, scaledB, scaledC, tenthsB}
-use Rattle.loan_charge.specs.Charge.{valueRatio, exponent1, exponent2, curveValue, exactBase, rateA, exactRate, exactSupplement, exactTotal, baseExponents, rateExponents, totalExponents, supplementExponents, totalQuantity, supplementQuantity, signedCents, tolerance, NearExact, Promised, InRange}
-use Rattle.loan_charge.specs.Computation.{scaledValue, signed, height, heights, weighted, factor, rate, sum, times, roundedUp, roundedDown, none, baseUnits, rateUnits, chargeFrom, chargeOf, Chargeable}
+use Rattle.loan_charge.specs.Charge.{valueRatio, exponent1, exponent2, exactBase, rateA, exactRate, exactSupplement, exactTotal, baseExponents, rateExponents, totalExponents, supplementExponents, totalQuantity, supplementQuantity, signedCents, tolerance, NearExact, Promised, InRange}
+use Rattle.loan_charge.specs.Computation.{scaledValue, signed, height, heights, weighted, sum, times, roundedUp, roundedDown, none, baseUnits, rateUnits, chargeFrom, chargeOf, Chargeable}
 use Rattle.loan_charge.specs.declared.coefficients.ScaledCurve.{ScaledCurve}
-use Rattle.loan_charge.specs.declared.charge.Heights.{Heights}
 use Rattle.loan_charge.specs.declared.charge.LoanCharge.{LoanCharge}
 use Rattle.loan_charge.specs.declared.charge.Signed.{Signed}
 use Rattle.loan_charge.proofs.CoefficientLaws.{ScaledCurveOf, scaled-a, scaled-b, scaled-c, tenths-b}
 use Rattle.loan_charge.proofs.ExactValues.{ValueAt, cents, ratio-is, ratio-proper, exponent-at, curvePlus, curveMinus, curve-proper, curve-is, base-proper, base-is, rate-proper, rate-is, product-is, sum-is}
 use Rattle.loan_charge.proofs.Gauss.{gauss-near, months-near, value-at, exponentNum, exponentDen}
 use Rattle.loan_charge.proofs.Money.{Value, Both, Above, Below, AtMost, both-add, both-times, weighted-near, factor-near, rateNum, rateDen, rate-near, rate-most, rounded-above, rounded-below}
-use Rattle.loan_charge.proofs.Near.{Near, near-self}
-use Rattle.loan_charge.proofs.ScaledValue.{Held, held, value-alike}
+use Rattle.loan_charge.proofs.Near.{Near}
+use Rattle.loan_charge.proofs.ScaledValue.{held, value-alike}
 use Rattle.loan_charge.proofs.Sizes.{base-most, sum-most, rate-units-most, supplement-most}
 
 -- From an enclosure over natural numbers to one of the fraction itself.

@@ -1,21 +1,20 @@
 -- The exact charge, from the paper's fractions to natural numerators and denominators.
 -- Assumes nothing.
-use mathlib.Core.Path.{_≡_, refl, sym, _∙_, ap, ap₂}
-use mathlib.Core.Bool.{Bool}
+use mathlib.Core.Path.{_≡_, ap, ap₂}
 use Prim.Native.Nat.{ℕ, _+_, _*_, _-_, _^_, _≤_, _<_, max, min}
 use native.Mathlib.Decide.{decLe}
 use native.Mathlib.Omega.{arith}
-use native.Mathlib.Nat.{mul-pos, max-eq-left, max-eq-right, min-eq-left, min-eq-right, le-dest, le-of-lt, lt-of-not-le, mul-le-mul-right, sub-add-cancel, sub-zero, add-sub-cancel-left}
-use Rattle.exact.specs.Fraction.{Fraction, Proper, quotient, whole, negated, reciprocal, larger, smaller, _⊕_, _⊖_, _⊗_, _≈_}
+use native.Mathlib.Nat.{mul-pos, min-eq-left, min-eq-right, le-dest, le-of-lt, lt-of-not-le, mul-le-mul-right, sub-zero, add-sub-cancel-left}
+use Rattle.exact.specs.Fraction.{Fraction, Proper, quotient, whole, negated, reciprocal, smaller, _⊕_, _⊖_, _⊗_, _≈_}
 use Rattle.exact.proofs.Fractions
 use Rattle.exact.proofs.Fractions.{Positive}
 use Rattle.exact.proofs.Bridge.{At}
 use Rattle.exact.specs.Quantity.{Assignment}
-use Rattle.loan_charge.specs.Coefficients.{Curve, curveA, curveB, rateC, rateB}
-use Rattle.loan_charge.specs.Charge.{valueRatio, gaussExponent, exponent1, exponent2, curveValue, exactBase, rateA, exactRate}
+use Rattle.loan_charge.specs.Coefficients.{Curve}
+use Rattle.loan_charge.specs.Charge.{valueRatio, gaussExponent, exponent1, exponent2, curveValue}
 use Rattle.loan_charge.specs.declared.coefficients.ScaledCurve.{ScaledCurve}
-use Rattle.loan_charge.proofs.CoefficientLaws.{Scaled, ScaledSigned, ScaledCurveOf}
-use Rattle.loan_charge.proofs.Gauss.{exactDistance, exponentNum, exponentDen}
+use Rattle.loan_charge.proofs.CoefficientLaws.{ScaledCurveOf}
+use Rattle.loan_charge.proofs.Gauss.{exponentNum, exponentDen}
 use Rattle.loan_charge.proofs.Money.{limitedNum, rateNum, rateDen}
 
 -- z

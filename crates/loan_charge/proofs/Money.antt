@@ -4,7 +4,7 @@ use mathlib.Core.Path.{_≡_, refl, ap}
 use Prim.Native.Nat.{ℕ, _+_, _*_, _-_, _/_, _^_, _≤_, _<_, min}
 use native.Mathlib.Decide.{decLe}
 use native.Mathlib.Omega.{arith}
-use native.Mathlib.Nat.{mul-le-mul, mul-le-mul-left, mul-le-mul-right, le-trans, le-refl, add-le-add, min-le-left, min-le-right, min-eq-left, min-eq-right, sub-add-cancel, le-of-lt, lt-of-not-le}
+use native.Mathlib.Nat.{mul-le-mul, mul-le-mul-left, mul-le-mul-right, add-le-add, min-le-left, min-le-right, min-eq-left, min-eq-right, sub-add-cancel, le-of-lt, lt-of-not-le}
 use Rattle.fixed_point.specs.Quotient.{scaledProduct}
 use Rattle.loan_charge.specs.declared.charge.Heights.{Heights}
 use Rattle.loan_charge.specs.declared.charge.Signed.{Signed}

@@ -2,19 +2,19 @@
 -- Assumes nothing.
 use mathlib.Core.Path.{_≡_}
 use mathlib.Core.Bool.{Bool}
-use Prim.Native.Nat.{ℕ, _+_, _*_, _-_, _/_, _^_, _≤_, _<_, min}
+use Prim.Native.Nat.{ℕ, _+_, _*_, _/_, _^_, _≤_}
 use native.Mathlib.Omega.{arith}
 use native.Mathlib.Nat.{mul-le-mul, le-trans}
 use Rattle.exponential.specs.Exponential.{expUpper}
 use Rattle.exponential.proofs.Laws as Exponential
-use Rattle.loan_charge.specs.Coefficients.{Curve, curveA, curveB}
+use Rattle.loan_charge.specs.Coefficients.{Curve}
 use Rattle.loan_charge.specs.Integers.{Months, scaledA, scaledB, scaledC, tenthsB}
-use Rattle.loan_charge.specs.Computation.{unit, exponent, height, heights, Usable, weighted, factor, rate, sum, times, baseUnits, rateUnits}
+use Rattle.loan_charge.specs.Computation.{exponent, height, heights, Usable, weighted, factor, rate, sum, times, baseUnits, rateUnits}
 use Rattle.loan_charge.specs.declared.coefficients.ScaledCurve.{ScaledCurve}
 use Rattle.loan_charge.specs.declared.charge.Heights.{Heights}
 use Rattle.loan_charge.specs.declared.charge.LoanCharge.{LoanCharge}
 use Rattle.loan_charge.specs.declared.charge.Signed.{Signed}
-use Rattle.loan_charge.proofs.CoefficientLaws.{ScaledCurveOf, scaled-a, scaled-b, scaled-c, tenths-b}
+use Rattle.loan_charge.proofs.CoefficientLaws.{ScaledCurveOf, scaled-a, scaled-b, tenths-b}
 use Rattle.loan_charge.proofs.Money.{Weights, Small, AtMost, weighted-most, times-most}
 
 -- Equal values have equal parts.

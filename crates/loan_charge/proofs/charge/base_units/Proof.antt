@@ -1,11 +1,10 @@
-use mathlib.Core.Path.{_≡_, refl, sym, _∙_, ap}
-use Prim.Native.Nat.{ℕ, _+_, _-_, _*_, _≤_, _<_}
+use mathlib.Core.Path.{_∙_, ap}
+use Prim.Native.Nat.{_+_}
 use native.Mathlib.Omega.{arith}
-use lib.ListN.{length, take, drop, getD}
 use Rattle.loan_charge.proofs.Sizes.{usable-a, usable-b, weighted-a-most, weighted-b-most, sum-most, factor-most}
 use Rattle.loan_charge.specs.declared.charge.Signed.{Signed}
 use Rattle.loan_charge.specs.declared.coefficients.ScaledCurve.{ScaledCurve}
-use Rattle.loan_charge.specs.Computation.{Usable, heights, weighted, sum, times, factor}
+use Rattle.loan_charge.specs.Computation.{Usable, heights, weighted, sum, times}
 use Rattle.loan_charge.proofs.Money.{AtMost}
 use mathlib.Core.Path.{subst⁻¹, ap₂}
 use Prim.Native.Nat.{_^_}
@@ -13,20 +12,10 @@ use Rattle.loan_charge.specs.Computation.{baseUnits}
 use borrow.Author.Needs.{needs}
 use Rattle.loan_charge.proofs.charge.base_units.Statement.{statement}
 use Rattle.loan_charge.proofs.charge.base_units.Tie as tie
-use Rattle.loan_charge.proofs.charge.base_units.Reads as reads
-use Rattle.loan_charge.proofs.charge.base_units.Lts as lts
-use Rattle.loan_charge.proofs.charge.curve_units.Reads as curve-units-reads
-use Rattle.loan_charge.proofs.charge.factor_of.Reads as factor-of-reads
-use Rattle.loan_charge.proofs.charge.sum_of.Reads as sum-of-reads
-use Rattle.loan_charge.proofs.charge.times_rate.Reads as times-rate-reads
-use Rattle.loan_charge.proofs.coefficients.curve_a.Reads as curve-a-reads
-use Rattle.loan_charge.proofs.coefficients.curve_b.Reads as curve-b-reads
 
--- src/charge.rt:220:38
 curve-a-requires : tie.Need-curve-a-requires
 curve-a-requires c κs = search needs
 
--- src/charge.rt:220:9
 curve-units-requires : tie.Need-curve-units-requires
 curve-units-requires c κs = (
   omega arith,
@@ -35,11 +24,9 @@ curve-units-requires c κs = (
   c .before .pre .4,
 )
 
--- src/charge.rt:221:37
 curve-b-requires : tie.Need-curve-b-requires
 curve-b-requires c κs = search needs
 
--- src/charge.rt:221:9
 curve-units-requires-2 : tie.Need-curve-units-requires-2
 curve-units-requires-2 c κs = (
   c .before .before .before .pre .1,
@@ -48,7 +35,6 @@ curve-units-requires-2 c κs = (
   c .before .before .before .pre .4,
 )
 
--- src/charge.rt:222:16
 sum-of-requires : tie.Need-sum-of-requires
 sum-of-requires c κs =
     let a : AtMost (298560000011 + 459600000017) 9050000000 (c .before .before .curve-units .result) =
@@ -59,11 +45,9 @@ sum-of-requires c κs =
     (weighted-b-most (c .before .before .before .before .args .first) (c .before .before .before .before .args .w) (c .before .before .before .before .args .balance) (c .before .before .before .before .pre .2) (c .before .before .before .before .pre .1)) in
     (omega (arith, a .plus), omega (arith, b .plus), omega (arith, a .minus), omega (arith, b .minus))
 
--- src/charge.rt:222:30
 factor-of-requires : tie.Need-factor-of-requires
 factor-of-requires c κs = search needs
 
--- src/charge.rt:222:5
 times-rate-requires : tie.Need-times-rate-requires
 times-rate-requires c κs =
     let s : AtMost 39735000000000 9050000000 (c .before .sum-of .result) =
@@ -72,7 +56,6 @@ times-rate-requires c κs =
     (sum-most (c .before .before .before .before .before .before .args .first) (c .before .before .before .before .before .before .args .w) (c .before .before .before .before .before .before .args .balance) (c .before .before .before .before .before .before .pre .2) (c .before .before .before .before .before .before .pre .1)) in
     (omega (arith, s .plus), omega (arith, s .minus), omega (arith, c .factor-of .ensures, factor-most (c .before .before .before .before .before .before .args .m) (c .before .before .before .before .before .before .pre .3)))
 
--- src/charge.rt:216:1
 returns : tie.Need-returns
 unfolding baseUnits
 returns c =

@@ -1,7 +1,6 @@
-use mathlib.Core.Path.{_≡_, refl, sym, _∙_, ap}
-use Prim.Native.Nat.{ℕ, _+_, _-_, _*_, _≤_, _<_}
+use mathlib.Core.Path.{_∙_, ap}
+use Prim.Native.Nat.{ℕ}
 use native.Mathlib.Omega.{arith}
-use lib.ListN.{length, take, drop, getD}
 use mathlib.Core.Path.{ap₂, subst⁻¹}
 use mathlib.Core.Bool.{Bool, true, false}
 use Rattle.loan_charge.specs.Coefficients.{firstSet}
@@ -13,24 +12,13 @@ use Rattle.loan_charge.proofs.Sizes.{base-most, rate-units-most}
 use borrow.Author.Needs.{needs}
 use Rattle.loan_charge.proofs.charge.charge.Statement.{statement}
 use Rattle.loan_charge.proofs.charge.charge.Tie as tie
-use Rattle.loan_charge.proofs.charge.charge.Reads as reads
-use Rattle.loan_charge.proofs.charge.charge.Lts as lts
-use Rattle.loan_charge.proofs.charge.base_units.Reads as base-units-reads
-use Rattle.loan_charge.proofs.charge.rate_units.Reads as rate-units-reads
-use Rattle.loan_charge.proofs.charge.scaled_value.Reads as scaled-value-reads
-use Rattle.loan_charge.proofs.charge.with_supplement.Reads as with-supplement-reads
-use Rattle.loan_charge.proofs.charge.without_supplement.Reads as without-supplement-reads
-use Rattle.loan_charge.proofs.coefficients.first_set.Reads as first-set-reads
 
--- src/charge.rt:269:9
 scaled-value-requires : tie.Need-scaled-value-requires
 scaled-value-requires c κs = search needs
 
--- src/charge.rt:270:9
 first-set-requires : tie.Need-first-set-requires
 first-set-requires c κs = search needs
 
--- src/charge.rt:271:9
 base-units-requires : tie.Need-base-units-requires
 base-units-requires c κs = (
   omega (arith, c .before .scaled-value .ensures, held (c .before .before .args .p) (c .before .before .args .q) (c .before .before .pre .0 .divisor-least) .most),
@@ -40,7 +28,6 @@ base-units-requires c κs = (
   c .before .before .pre .1,
 )
 
--- src/charge.rt:273:31
 rate-units-requires : tie.Need-rate-units-requires
 rate-units-requires c κs = (
   omega (arith, c .before .before .before .scaled-value .ensures, held (c .before .before .before .before .args .p) (c .before .before .before .before .args .q) (c .before .before .before .before .pre .0 .divisor-least) .least),
@@ -49,7 +36,6 @@ rate-units-requires c κs = (
   c .before .before .before .before .pre .1,
 )
 
--- src/charge.rt:273:9
 with-supplement-requires : tie.Need-with-supplement-requires
 with-supplement-requires c κs =
     let b : AtMost 119205000000000 27150000000 (c .before .before .base-units .result) =
@@ -57,7 +43,6 @@ with-supplement-requires c κs =
     (base-most (firstSet (c .before .before .before .before .before .args .term)) (scaledValue (c .before .before .before .before .before .args .p) (c .before .before .before .before .before .args .q)) (c .before .before .before .before .before .args .balance) (c .before .before .before .before .before .args .months) (c .before .before .before .before .before .args .m) (record { least = c .before .before .before .before .before .pre .0 .months-least; most = c .before .before .before .before .before .pre .0 .months-most }) (c .before .before .before .before .before .pre .0 .balance-most) (c .before .before .before .before .before .pre .0 .factor-most)) in
     (b .plus, b .minus, omega (arith, (c .rate-units .ensures ∙ ap₂ (λ (f : Bool) (w : ℕ). rateUnits f w (c .before .before .before .before .before .args .months)) (c .before .before .before .first-set .ensures) (c .before .before .before .before .scaled-value .ensures)), rate-units-most (firstSet (c .before .before .before .before .before .args .term)) (scaledValue (c .before .before .before .before .before .args .p) (c .before .before .before .before .before .args .q)) (c .before .before .before .before .before .args .months) (record { least = c .before .before .before .before .before .pre .0 .months-least; most = c .before .before .before .before .before .pre .0 .months-most })))
 
--- src/charge.rt:275:9
 without-supplement-requires : tie.Need-without-supplement-requires
 without-supplement-requires c κs =
     let b : AtMost 119205000000000 27150000000 (c .before .base-units .result) =
@@ -65,14 +50,12 @@ without-supplement-requires c κs =
     (base-most (firstSet (c .before .before .before .before .args .term)) (scaledValue (c .before .before .before .before .args .p) (c .before .before .before .before .args .q)) (c .before .before .before .before .args .balance) (c .before .before .before .before .args .months) (c .before .before .before .before .args .m) (record { least = c .before .before .before .before .pre .0 .months-least; most = c .before .before .before .before .pre .0 .months-most }) (c .before .before .before .before .pre .0 .balance-most) (c .before .before .before .before .pre .0 .factor-most)) in
     (b .plus, b .minus)
 
--- src/charge.rt:256:1
 returns : tie.Need-returns
 unfolding chargeOf
 returns c =
     rw (c .before .before .if1 .taken)
     (c .with-supplement .ensures ∙ ap₂ (λ (x : Signed) (r : ℕ). chargeFrom true x r) (c .before .before .before .base-units .ensures ∙ ap₂ (λ (f : Bool) (w : ℕ). baseUnits f w (c .before .before .before .before .before .before .args .balance) (c .before .before .before .before .before .before .args .months) (c .before .before .before .before .before .before .args .m)) (c .before .before .before .before .first-set .ensures) (c .before .before .before .before .before .scaled-value .ensures)) (c .before .rate-units .ensures ∙ ap₂ (λ (f : Bool) (w : ℕ). rateUnits f w (c .before .before .before .before .before .before .args .months)) (c .before .before .before .before .first-set .ensures) (c .before .before .before .before .before .scaled-value .ensures)))
 
--- src/charge.rt:256:1
 returns-2 : tie.Need-returns-2
 unfolding chargeOf chargeFrom
 returns-2 c =

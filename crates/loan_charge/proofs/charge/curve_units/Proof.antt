@@ -1,23 +1,15 @@
-use mathlib.Core.Path.{_≡_, refl, sym, _∙_, ap}
-use Prim.Native.Nat.{ℕ, _+_, _-_, _*_, _≤_, _<_}
+use mathlib.Core.Path.{_∙_, ap}
 use native.Mathlib.Omega.{arith}
-use lib.ListN.{length, take, drop, getD}
 use Rattle.loan_charge.proofs.Sizes.{heights-small}
 use Rattle.loan_charge.specs.declared.charge.Heights.{Heights}
 use Rattle.loan_charge.specs.Computation.{weighted}
 use borrow.Author.Needs.{needs}
 use Rattle.loan_charge.proofs.charge.curve_units.Statement.{statement}
 use Rattle.loan_charge.proofs.charge.curve_units.Tie as tie
-use Rattle.loan_charge.proofs.charge.curve_units.Reads as reads
-use Rattle.loan_charge.proofs.charge.curve_units.Lts as lts
-use Rattle.loan_charge.proofs.charge.heights_of.Reads as heights-of-reads
-use Rattle.loan_charge.proofs.charge.weighted_by.Reads as weighted-by-reads
 
--- src/charge.rt:146:23
 heights-of-requires : tie.Need-heights-of-requires
 heights-of-requires c κs = search needs
 
--- src/charge.rt:146:5
 weighted-by-requires : tie.Need-weighted-by-requires
 weighted-by-requires c κs =
     let small = heights-small (c .before .args .w) (c .before .args .c) in (
@@ -29,7 +21,6 @@ weighted-by-requires c κs =
       omega (arith, ap (λ (h : Heights). h .second) (c .heights-of .ensures), small .second),
     )
 
--- src/charge.rt:142:1
 returns : tie.Need-returns
 returns c =
     c .weighted-by .ensures ∙

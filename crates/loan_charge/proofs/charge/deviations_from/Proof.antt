@@ -1,31 +1,23 @@
-use mathlib.Core.Path.{_≡_, refl, sym, _∙_, ap}
-use Prim.Native.Nat.{ℕ, _+_, _-_, _*_, _≤_, _<_}
+use mathlib.Core.Path.{ap}
+use Prim.Native.Nat.{ℕ, _*_}
 use native.Mathlib.Omega.{arith}
-use lib.ListN.{length, take, drop, getD}
 use Rattle.loan_charge.specs.Computation.{distance, deviations}
 use Rattle.loan_charge.proofs.Gauss.{distance-bound}
 use Prim.Native.Nat.{_/_}
 use borrow.Author.Needs.{needs}
 use Rattle.loan_charge.proofs.charge.deviations_from.Statement.{statement}
 use Rattle.loan_charge.proofs.charge.deviations_from.Tie as tie
-use Rattle.loan_charge.proofs.charge.deviations_from.Reads as reads
-use Rattle.loan_charge.proofs.charge.deviations_from.Lts as lts
-use Rattle.loan_charge.proofs.charge.distance_from.Reads as distance-from-reads
 
--- src/charge.rt:63:5
 distance-from-requires : tie.Need-distance-from-requires
 distance-from-requires c κs = search needs
 
--- src/charge.rt:63:5
 mul-result : tie.Need-mul-result
 unfolding distance deviations
 mul-result c = omega (arith, c .distance-from .ensures, distance-bound (c .before .args .w) (c .before .args .mean) (c .before .pre .0) (c .before .pre .1))
 
--- src/charge.rt:63:5
 div-result : tie.Need-div-result
 div-result c = search needs
 
--- src/charge.rt:59:1
 returns : tie.Need-returns
 unfolding distance deviations
 returns c = ap (λ (t : ℕ). t * 8192 / c .before .args .deviation) (c .distance-from .ensures)

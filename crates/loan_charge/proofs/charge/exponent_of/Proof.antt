@@ -1,7 +1,6 @@
-use mathlib.Core.Path.{_≡_, refl, sym, _∙_, ap}
-use Prim.Native.Nat.{ℕ, _+_, _-_, _*_, _≤_, _<_}
+use mathlib.Core.Path.{_∙_, ap}
+use Prim.Native.Nat.{ℕ}
 use native.Mathlib.Omega.{arith}
-use lib.ListN.{length, take, drop, getD}
 use Rattle.loan_charge.specs.Computation.{exponent}
 use Prim.Native.Nat.{_/_}
 use Rattle.fixed_point.specs.Quotient.{scaledProduct}
@@ -9,22 +8,15 @@ use Rattle.loan_charge.proofs.Gauss.{deviations-bound}
 use borrow.Author.Needs.{needs}
 use Rattle.loan_charge.proofs.charge.exponent_of.Statement.{statement}
 use Rattle.loan_charge.proofs.charge.exponent_of.Tie as tie
-use Rattle.loan_charge.proofs.charge.exponent_of.Reads as reads
-use Rattle.loan_charge.proofs.charge.exponent_of.Lts as lts
-use Rattle.fixed_point.proofs.scaled_product.Reads as scaled-product-reads
-use Rattle.loan_charge.proofs.charge.deviations_from.Reads as deviations-from-reads
 
--- src/charge.rt:71:9
 deviations-from-requires : tie.Need-deviations-from-requires
 deviations-from-requires c κs = search needs
 
--- src/charge.rt:72:5
 scaled-product-requires : tie.Need-scaled-product-requires
 scaled-product-requires c κs =
     let h = deviations-bound (c .before .args .w) (c .before .args .mean) (c .before .args .deviation) (c .before .pre .0) (c .before .pre .1) (c .before .pre .2) in
     (omega (arith, c .deviations-from .ensures), omega (arith, c .deviations-from .ensures))
 
--- src/charge.rt:67:1
 returns : tie.Need-returns
 unfolding exponent
 returns c =

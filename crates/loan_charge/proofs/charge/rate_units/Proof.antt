@@ -1,40 +1,26 @@
-use mathlib.Core.Path.{_≡_, refl, sym, _∙_, ap}
-use Prim.Native.Nat.{ℕ, _+_, _-_, _*_, _≤_, _<_}
+use mathlib.Core.Path.{refl, _∙_}
+use Prim.Native.Nat.{_*_}
 use native.Mathlib.Omega.{arith}
-use lib.ListN.{length, take, drop, getD}
 use Rattle.exponential.proofs.Laws as Exponential
-use mathlib.Core.Path.{ap₂}
 use Prim.Native.Nat.{_/_, _^_}
 use Rattle.loan_charge.proofs.CoefficientLaws.{scaled-c, tenths-b}
-use Rattle.loan_charge.specs.Computation.{rate}
 use Rattle.loan_charge.specs.Computation.{rateUnits}
 use borrow.Author.Needs.{needs}
 use Rattle.loan_charge.proofs.charge.rate_units.Statement.{statement}
 use Rattle.loan_charge.proofs.charge.rate_units.Tie as tie
-use Rattle.loan_charge.proofs.charge.rate_units.Reads as reads
-use Rattle.loan_charge.proofs.charge.rate_units.Lts as lts
-use Rattle.exponential.proofs.exp_upper.Reads as exp-upper-reads
-use Rattle.loan_charge.proofs.charge.rate_of.Reads as rate-of-reads
-use Rattle.loan_charge.proofs.coefficients.rate_b.Reads as rate-b-reads
-use Rattle.loan_charge.proofs.coefficients.rate_c.Reads as rate-c-reads
 
--- src/charge.rt:230:36
 mul-exp-upper : tie.Need-mul-exp-upper
 mul-exp-upper c = search needs
 
--- src/charge.rt:230:9
 exp-upper-requires : tie.Need-exp-upper-requires
 exp-upper-requires c κs = search needs
 
--- src/charge.rt:231:16
 rate-c-requires : tie.Need-rate-c-requires
 rate-c-requires c κs = search needs
 
--- src/charge.rt:231:39
 rate-b-requires : tie.Need-rate-b-requires
 rate-b-requires c κs = search needs
 
--- src/charge.rt:231:5
 rate-of-requires : tie.Need-rate-of-requires
 rate-of-requires c κs = (
   c .before .before .before .pre .0,
@@ -44,7 +30,6 @@ rate-of-requires c κs = (
   omega (arith, c .before .before .exp-upper .ensures, Exponential.bounded (c .before .before .before .args .months * 2 ^ 38 / 120)),
 )
 
--- src/charge.rt:226:1
 returns : tie.Need-returns
 unfolding rateUnits
 returns c =

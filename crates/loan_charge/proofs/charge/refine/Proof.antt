@@ -1,56 +1,44 @@
-use mathlib.Core.Path.{_≡_, refl, sym, _∙_, ap}
-use Prim.Native.Nat.{ℕ, _+_, _-_, _*_, _≤_, _<_}
 use native.Mathlib.Omega.{arith}
-use lib.ListN.{length, take, drop, getD}
 use Rattle.loan_charge.proofs.ScaledValue.{begun, step-fits, begun-bound, quotient-is, step₁, step₂, step₃, step₄, step₅}
 use borrow.Author.Needs.{needs}
 use Rattle.loan_charge.proofs.charge.refine.Statement.{statement}
 use Rattle.loan_charge.proofs.charge.refine.Tie as tie
-use Rattle.loan_charge.proofs.charge.refine.Reads as reads
-use Rattle.loan_charge.proofs.charge.refine.Lts as lts
-use Rattle.fixed_point.proofs.division_step.Reads as division-step-reads
 
--- src/charge.rt:20:9
 division-step-requires : tie.Need-division-step-requires
 division-step-requires c κs = search needs
 
--- src/charge.rt:21:9
 division-step-requires-2 : tie.Need-division-step-requires-2
-division-step-requires-2 c κs = 
+division-step-requires-2 c κs =
     step-fits 300 (step₁ (begun (c .before .args .q) (c .before .args .d) (c .before .pre .1)) (c .division-step .ensures))
     (begun-bound (c .before .args .q) (c .before .args .d) (c .before .pre .1) (c .before .pre .0))
     (omega arith)
     (omega arith)
     (omega arith)
 
--- src/charge.rt:22:9
 division-step-requires-3 : tie.Need-division-step-requires-3
-division-step-requires-3 c κs = 
+division-step-requires-3 c κs =
     step-fits 512 (step₂ (begun (c .before .before .args .q) (c .before .before .args .d) (c .before .before .pre .1)) (c .before .division-step .ensures) (c .division-step2 .ensures))
     (begun-bound (c .before .before .args .q) (c .before .before .args .d) (c .before .before .pre .1) (c .before .before .pre .0))
     (omega arith)
     (omega arith)
     (omega arith)
 
--- src/charge.rt:23:9
 division-step-requires-4 : tie.Need-division-step-requires-4
-division-step-requires-4 c κs = 
+division-step-requires-4 c κs =
     step-fits 512 (step₃ (begun (c .before .before .before .args .q) (c .before .before .before .args .d) (c .before .before .before .pre .1)) (c .before .before .division-step .ensures) (c .before .division-step2 .ensures) (c .division-step3 .ensures))
     (begun-bound (c .before .before .before .args .q) (c .before .before .before .args .d) (c .before .before .before .pre .1) (c .before .before .before .pre .0))
     (omega arith)
     (omega arith)
     (omega arith)
 
--- src/charge.rt:24:9
 division-step-requires-5 : tie.Need-division-step-requires-5
-division-step-requires-5 c κs = 
+division-step-requires-5 c κs =
     step-fits 512 (step₄ (begun (c .before .before .before .before .args .q) (c .before .before .before .before .args .d) (c .before .before .before .before .pre .1)) (c .before .before .before .division-step .ensures) (c .before .before .division-step2 .ensures) (c .before .division-step3 .ensures) (c .division-step4 .ensures))
     (begun-bound (c .before .before .before .before .args .q) (c .before .before .before .before .args .d) (c .before .before .before .before .pre .1) (c .before .before .before .before .pre .0))
     (omega arith)
     (omega arith)
     (omega arith)
 
--- src/charge.rt:16:1
 returns : tie.Need-returns
 returns c = quotient-is (step₅ (begun (c .before .before .before .before .before .args .q) (c .before .before .before .before .before .args .d) (c .before .before .before .before .before .pre .1)) (c .before .before .before .before .division-step .ensures) (c .before .before .before .division-step2 .ensures) (c .before .before .division-step3 .ensures) (c .before .division-step4 .ensures) (c .division-step5 .ensures))
 

@@ -1,29 +1,20 @@
-use mathlib.Core.Path.{_≡_, refl, sym, _∙_, ap}
-use Prim.Native.Nat.{ℕ, _+_, _-_, _*_, _≤_, _<_}
 use native.Mathlib.Omega.{arith}
-use lib.ListN.{length, take, drop, getD}
 use Rattle.loan_charge.proofs.ScaledValue.{begun, begun-bound, divided-step, quotient-is, short-step, step-fits}
 use borrow.Author.Needs.{needs}
 use Rattle.loan_charge.proofs.charge.refine_short.Statement.{statement}
 use Rattle.loan_charge.proofs.charge.refine_short.Tie as tie
-use Rattle.loan_charge.proofs.charge.refine_short.Reads as reads
-use Rattle.loan_charge.proofs.charge.refine_short.Lts as lts
-use Rattle.fixed_point.proofs.division_step.Reads as division-step-reads
 
--- src/charge.rt:57:9
 division-step-requires : tie.Need-division-step-requires
 division-step-requires c κs = search needs
 
--- src/charge.rt:58:9
 division-step-requires-2 : tie.Need-division-step-requires-2
-division-step-requires-2 c κs = 
+division-step-requires-2 c κs =
     step-fits 134217728 (divided-step 120000 (begun (c .before .args .q) (c .before .args .d) (c .before .pre .1)) (c .division-step .ensures))
     (begun-bound (c .before .args .q) (c .before .args .d) (c .before .pre .1) (c .before .pre .0))
     (omega arith)
     (omega arith)
     (omega arith)
 
--- src/charge.rt:53:1
 returns : tie.Need-returns
 returns c = quotient-is (short-step (begun (c .before .before .args .q) (c .before .before .args .d) (c .before .before .pre .1)) (c .before .division-step .ensures) (c .division-step2 .ensures))
 

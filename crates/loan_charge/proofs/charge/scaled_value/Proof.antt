@@ -1,50 +1,34 @@
-use mathlib.Core.Path.{_≡_, refl, sym, _∙_, ap}
-use Prim.Native.Nat.{ℕ, _+_, _-_, _*_, _≤_, _<_}
 use native.Mathlib.Omega.{arith}
-use lib.ListN.{length, take, drop, getD}
 use Rattle.loan_charge.proofs.ScaledValue.{value-least, value-most, value-between}
 use native.Mathlib.Nat.{mod-lt}
 use borrow.Author.Needs.{needs}
 use Rattle.loan_charge.proofs.charge.scaled_value.Statement.{statement}
 use Rattle.loan_charge.proofs.charge.scaled_value.Tie as tie
-use Rattle.loan_charge.proofs.charge.scaled_value.Reads as reads
-use Rattle.loan_charge.proofs.charge.scaled_value.Lts as lts
-use Rattle.loan_charge.proofs.charge.refine.Reads as refine-reads
-use Rattle.loan_charge.proofs.charge.refine_short.Reads as refine-short-reads
 
--- src/charge.rt:68:9
 returns : tie.Need-returns
 returns c = value-least (c .before .args .p) (c .before .args .q) (c .if1 .taken)
 
--- src/charge.rt:70:13
 div-z : tie.Need-div-z
 div-z c = search needs
 
--- src/charge.rt:72:16
 mul-result : tie.Need-mul-result
 mul-result c = search needs
 
--- src/charge.rt:72:9
 returns-2 : tie.Need-returns-2
 returns-2 c = value-most (c .before .before .args .p) (c .before .before .args .q) (c .before .before .pre .0) (omega arith) (c .if2 .taken)
 
--- src/charge.rt:76:20
 rem-t6 : tie.Need-rem-t6
 rem-t6 c = search needs
 
--- src/charge.rt:79:9
 refine-short-requires : tie.Need-refine-short-requires
 refine-short-requires c κs = (c .before .if2 .left, mod-lt (c .before .before .before .args .p) (c .before .before .before .pre .0), c .if3 .taken)
 
--- src/charge.rt:81:9
 refine-requires : tie.Need-refine-requires
 refine-requires c κs = (c .before .if2 .left, mod-lt (c .before .before .before .args .p) (c .before .before .before .pre .0), c .before .before .before .pre .1)
 
--- src/charge.rt:63:1
 returns-3 : tie.Need-returns-3
 returns-3 c = value-between (c .before .before .before .before .args .p) (c .before .before .before .before .args .q) (c .refine-short .result) (c .before .before .before .before .pre .0) (omega arith) (c .before .before .if2 .left) (c .refine-short .ensures)
 
--- src/charge.rt:63:1
 returns-4 : tie.Need-returns-4
 returns-4 c = value-between (c .before .before .before .before .args .p) (c .before .before .before .before .args .q) (c .refine .result) (c .before .before .before .before .pre .0) (omega arith) (c .before .before .if2 .left) (c .refine .ensures)
 

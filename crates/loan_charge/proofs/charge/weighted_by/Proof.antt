@@ -1,26 +1,18 @@
-use mathlib.Core.Path.{_≡_, refl, sym, _∙_, ap}
-use Prim.Native.Nat.{ℕ, _+_, _-_, _*_, _≤_, _<_}
+use Prim.Native.Nat.{_+_}
 use native.Mathlib.Omega.{arith}
-use lib.ListN.{length, take, drop, getD}
 use mathlib.Core.Path.{ap₂}
 use Rattle.loan_charge.proofs.Money.{amounts, term-bound}
 use Rattle.loan_charge.specs.Computation.{weighted}
 use borrow.Author.Needs.{needs}
 use Rattle.loan_charge.proofs.charge.weighted_by.Statement.{statement}
 use Rattle.loan_charge.proofs.charge.weighted_by.Tie as tie
-use Rattle.loan_charge.proofs.charge.weighted_by.Reads as reads
-use Rattle.loan_charge.proofs.charge.weighted_by.Lts as lts
-use Rattle.loan_charge.proofs.charge.weighted_term.Reads as weighted-term-reads
 
--- src/charge.rt:99:15
 weighted-term-requires : tie.Need-weighted-term-requires
 weighted-term-requires c κs = search needs
 
--- src/charge.rt:99:54
 weighted-term-requires-2 : tie.Need-weighted-term-requires-2
 weighted-term-requires-2 c κs = search needs
 
--- src/charge.rt:99:15
 add-t6 : tie.Need-add-t6
 add-t6 c =
     omega (
@@ -31,11 +23,9 @@ add-t6 c =
       term-bound (c .before .before .args .k) (c .before .before .args .c .plus2) (c .before .before .args .h .second) (c .before .before .pre .0) (omega arith) (c .before .before .pre .5),
     )
 
--- src/charge.rt:100:16
 weighted-term-requires-3 : tie.Need-weighted-term-requires-3
 weighted-term-requires-3 c κs = search needs
 
--- src/charge.rt:94:1
 returns : tie.Need-returns
 unfolding weighted
 returns c =

@@ -1,27 +1,18 @@
-use mathlib.Core.Path.{_≡_, refl, sym, _∙_, ap}
-use Prim.Native.Nat.{ℕ, _+_, _-_, _*_, _≤_, _<_}
+use mathlib.Core.Path.{_∙_, ap}
 use native.Mathlib.Omega.{arith}
-use lib.ListN.{length, take, drop, getD}
 use Rattle.loan_charge.proofs.Sizes.{numbers, supplement-most}
 use Rattle.loan_charge.specs.declared.charge.Signed.{Signed}
-use Rattle.loan_charge.specs.Computation.{roundedUp, roundedDown, times}
+use Rattle.loan_charge.specs.Computation.{roundedUp, roundedDown}
 use Rattle.loan_charge.proofs.Money.{AtMost}
 use mathlib.Core.Path.{subst⁻¹}
 use Rattle.loan_charge.specs.Computation.{chargeFrom}
 use borrow.Author.Needs.{needs}
 use Rattle.loan_charge.proofs.charge.with_supplement.Statement.{statement}
 use Rattle.loan_charge.proofs.charge.with_supplement.Tie as tie
-use Rattle.loan_charge.proofs.charge.with_supplement.Reads as reads
-use Rattle.loan_charge.proofs.charge.with_supplement.Lts as lts
-use Rattle.loan_charge.proofs.charge.rounded_down.Reads as rounded-down-reads
-use Rattle.loan_charge.proofs.charge.rounded_up.Reads as rounded-up-reads
-use Rattle.loan_charge.proofs.charge.times_rate.Reads as times-rate-reads
 
--- src/charge.rt:238:9
 times-rate-requires : tie.Need-times-rate-requires
 times-rate-requires c κs = search needs
 
--- src/charge.rt:240:16
 rounded-up-requires : tie.Need-rounded-up-requires
 rounded-up-requires c κs =
     let s : AtMost 238410000000000 54300000000 (c .times-rate .result) =
@@ -29,7 +20,6 @@ rounded-up-requires c κs =
     (supplement-most (record { plus = c .before .pre .0; minus = c .before .pre .1 }) (c .before .pre .2)) in
     (omega arith, omega (arith, s .plus), omega (arith, s .minus))
 
--- src/charge.rt:241:21
 rounded-down-requires : tie.Need-rounded-down-requires
 rounded-down-requires c κs =
     let s : AtMost 238410000000000 54300000000 (c .before .times-rate .result) =
@@ -37,7 +27,6 @@ rounded-down-requires c κs =
     (supplement-most (record { plus = c .before .before .pre .0; minus = c .before .before .pre .1 }) (c .before .before .pre .2)) in
     (omega (arith, s .plus), omega (arith, s .minus))
 
--- src/charge.rt:234:1
 returns : tie.Need-returns
 unfolding chargeFrom
 returns c =

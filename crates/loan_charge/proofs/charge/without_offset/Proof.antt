@@ -1,25 +1,17 @@
-use mathlib.Core.Path.{_≡_, refl, sym, _∙_, ap}
-use Prim.Native.Nat.{ℕ, _+_, _-_, _*_, _≤_, _<_}
 use native.Mathlib.Omega.{arith}
-use lib.ListN.{length, take, drop, getD}
 use Rattle.loan_charge.specs.Computation.{signed}
 use Rattle.loan_charge.proofs.Money.{amounts}
 use borrow.Author.Needs.{needs}
 use Rattle.loan_charge.proofs.charge.without_offset.Statement.{statement}
 use Rattle.loan_charge.proofs.charge.without_offset.Tie as tie
-use Rattle.loan_charge.proofs.charge.without_offset.Reads as reads
-use Rattle.loan_charge.proofs.charge.without_offset.Lts as lts
 
--- src/charge.rt:112:20
 sub-t4 : tie.Need-sub-t4
 sub-t4 c = search needs
 
--- src/charge.rt:106:1
 returns : tie.Need-returns
 unfolding signed
 returns c = amounts (omega arith) (omega arith)
 
--- src/charge.rt:106:1
 returns-2 : tie.Need-returns-2
 unfolding signed
 returns-2 c = amounts (omega arith) (omega arith)
