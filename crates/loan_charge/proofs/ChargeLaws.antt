@@ -20,7 +20,7 @@ use Rattle.exponential.proofs.Laws as Exponential
 use Rattle.loan_charge.specs.Coefficients.{Curve, pick, firstSet, curveA, curveB}
 use Rattle.loan_charge.specs.Integers.{Months, scaledA, scaledB, scaledC, tenthsB}
 use Rattle.loan_charge.specs.Charge.{valueRatio, exponent1, exponent2, exactBase, rateA, exactRate, exactSupplement, exactTotal, baseExponents, rateExponents, totalExponents, supplementExponents, totalQuantity, supplementQuantity, signedCents, tolerance, NearExact, Promised, InRange}
-use Rattle.loan_charge.specs.Computation.{scaledValue, signed, height, heights, weighted, sum, times, roundedUp, roundedDown, none, baseUnits, rateUnits, chargeFrom, chargeOf, Chargeable}
+use Rattle.loan_charge.specs.Computation.{scaleA, scaledValue, signed, height, heights, weighted, sum, times, roundedUp, roundedDown, none, baseUnits, rateUnits, chargeFrom, chargeOf, Chargeable}
 use Rattle.loan_charge.specs.declared.coefficients.ScaledCurve.{ScaledCurve}
 use Rattle.loan_charge.specs.declared.charge.LoanCharge.{LoanCharge}
 use Rattle.loan_charge.specs.declared.charge.Signed.{Signed}
@@ -240,13 +240,13 @@ module _ (p q : ℕ) (pos : 0 < q) where
       abbrev b : ScaledCurve
       b = scaledB first months
 
-      curves-both : Both (sum (weighted (10 ^ 7) a (heights w a)) (weighted balance b (heights w b)))
-          (10 ^ 7 * curvePlus a (v₁ .N) (v₁ .D) (v₂ .N) (v₂ .D) * (v₃ .D * v₄ .D) + balance * curvePlus b (v₃ .N) (v₃ .D) (v₄ .N) (v₄ .D) * (v₁ .D * v₂ .D))
-          (10 ^ 7 * curveMinus a (v₁ .N) (v₁ .D) (v₂ .N) (v₂ .D) * (v₃ .D * v₄ .D) + balance * curveMinus b (v₃ .N) (v₃ .D) (v₄ .N) (v₄ .D) * (v₁ .D * v₂ .D))
+      curves-both : Both (sum (weighted scaleA a (heights w a)) (weighted balance b (heights w b)))
+          (scaleA * curvePlus a (v₁ .N) (v₁ .D) (v₂ .N) (v₂ .D) * (v₃ .D * v₄ .D) + balance * curvePlus b (v₃ .N) (v₃ .D) (v₄ .N) (v₄ .D) * (v₁ .D * v₂ .D))
+          (scaleA * curveMinus a (v₁ .N) (v₁ .D) (v₂ .N) (v₂ .D) * (v₃ .D * v₄ .D) + balance * curveMinus b (v₃ .N) (v₃ .D) (v₄ .N) (v₄ .D) * (v₁ .D * v₂ .D))
           (v₁ .D * v₂ .D * (v₃ .D * v₄ .D)) 1519 4 1 2
       curves-both =
           both-add
-          (weighted-near (10 ^ 7) a (heights w a) (v₁ .value) (v₂ .value) 298560000000 459600000000 9050000000 12 18 1
+          (weighted-near scaleA a (heights w a) (v₁ .value) (v₂ .value) 298560000000 459600000000 9050000000 12 18 1
           (omega (arith, scaled-a months hm first .weight1 .most))
           (omega (arith, scaled-a months hm first .weight2 .plus-most))
           (omega (arith, scaled-a months hm first .weight2 .minus-most))
@@ -267,8 +267,8 @@ module _ (p q : ℕ) (pos : 0 < q) where
           let A-pos : 0 < v₁ .D * v₂ .D = mul-pos (v₁ .exact .positive) (v₂ .exact .positive) in
           let B-pos : 0 < v₃ .D * v₄ .D = mul-pos (v₃ .exact .positive) (v₄ .exact .positive) in
           record {
-            plus = (10 ^ 7 * curvePlus a (v₁ .N) (v₁ .D) (v₂ .N) (v₂ .D) * (v₃ .D * v₄ .D) + balance * curvePlus b (v₃ .N) (v₃ .D) (v₄ .N) (v₄ .D) * (v₁ .D * v₂ .D)) * m;
-            minus = (10 ^ 7 * curveMinus a (v₁ .N) (v₁ .D) (v₂ .N) (v₂ .D) * (v₃ .D * v₄ .D) + balance * curveMinus b (v₃ .N) (v₃ .D) (v₄ .N) (v₄ .D) * (v₁ .D * v₂ .D)) * m;
+            plus = (scaleA * curvePlus a (v₁ .N) (v₁ .D) (v₂ .N) (v₂ .D) * (v₃ .D * v₄ .D) + balance * curvePlus b (v₃ .N) (v₃ .D) (v₄ .N) (v₄ .D) * (v₁ .D * v₂ .D)) * m;
+            minus = (scaleA * curveMinus a (v₁ .N) (v₁ .D) (v₂ .N) (v₂ .D) * (v₃ .D * v₄ .D) + balance * curveMinus b (v₃ .N) (v₃ .D) (v₄ .N) (v₄ .D) * (v₁ .D * v₂ .D)) * m;
             over = v₁ .D * v₂ .D * (v₃ .D * v₄ .D) * 10 ^ 17;
             positive = omega (arith, mul-pos A-pos B-pos);
             proper = base-proper A-proper A-same B-proper B-same A-pos B-pos balance m;

@@ -50,20 +50,18 @@ module _ {P q w : ℕ} (h : Held P q w) (mean : ℕ) (small : mean < 2 ^ 20) whe
   unfolding distance
   distance-low = go (decLe (mean * 2 ^ 27) w)
     where
-      go : Dec (mean * 2 ^ 27 ≤ w) → (w - mean * 2 ^ 27 + (mean * 2 ^ 27 - w - 1)) * q ≤ 2 ^ 27 * exactDistance P q mean
-      go (yes k) = after-mean P q w mean (w - mean * 2 ^ 27 + (mean * 2 ^ 27 - w - 1)) (omega arith) (h .low)
+      go : Dec (mean * 2 ^ 27 ≤ w) → distance w mean * q ≤ 2 ^ 27 * exactDistance P q mean
+      go (yes k) = after-mean P q w mean (distance w mean) (omega arith) (h .low)
       go (no k) =
-          before-mean P q w mean (w - mean * 2 ^ 27 + (mean * 2 ^ 27 - w - 1)) (omega (arith, lt-of-not-le k)) (h .low)
-          (h .high (omega (arith, lt-of-not-le k))) .0
+          before-mean P q w mean (distance w mean) (omega (arith, lt-of-not-le k)) (h .low) (h .high (omega (arith, lt-of-not-le k))) .0
 
   distance-high : w < 16 * unit → 2 ^ 27 * exactDistance P q mean ≤ (distance w mean + 1) * q
   unfolding distance
   distance-high inside = go (decLe (mean * 2 ^ 27) w)
     where
-      go : Dec (mean * 2 ^ 27 ≤ w) → 2 ^ 27 * exactDistance P q mean ≤ (w - mean * 2 ^ 27 + (mean * 2 ^ 27 - w - 1) + 1) * q
-      go (yes k) = after-mean-high P q w mean (w - mean * 2 ^ 27 + (mean * 2 ^ 27 - w - 1)) (omega arith) (h .low) (h .high inside)
-      go (no k) =
-          before-mean P q w mean (w - mean * 2 ^ 27 + (mean * 2 ^ 27 - w - 1)) (omega (arith, lt-of-not-le k)) (h .low) (h .high inside) .1
+      go : Dec (mean * 2 ^ 27 ≤ w) → 2 ^ 27 * exactDistance P q mean ≤ (distance w mean + 1) * q
+      go (yes k) = after-mean-high P q w mean (distance w mean) (omega arith) (h .low) (h .high inside)
+      go (no k) = before-mean P q w mean (distance w mean) (omega (arith, lt-of-not-le k)) (h .low) (h .high inside) .1
 
 -- In standard deviations: t = 8192 d / σ.
 deviations-step : (d t σ q D : ℕ) → t * σ ≤ d * 8192 → d * q ≤ 2 ^ 27 * D → t * (σ * q) ≤ 2 ^ 40 * D

@@ -9,7 +9,7 @@ use Rattle.fixed_point.specs.Quotient.{scaledProduct}
 use Rattle.loan_charge.specs.declared.charge.Heights.{Heights}
 use Rattle.loan_charge.specs.declared.charge.Signed.{Signed}
 use Rattle.loan_charge.specs.declared.coefficients.ScaledCurve.{ScaledCurve}
-use Rattle.loan_charge.specs.Computation.{unit, weighted, factor, rate, sum, times, signed, roundedUp, roundedDown}
+use Rattle.loan_charge.specs.Computation.{unit, limit, limited, raised, lowered, weighted, factor, rate, sum, times, signed, roundedUp, roundedDown}
 use Rattle.loan_charge.proofs.Near.{Near, Floored, near-add, near-mul, near-equal, near-scale, near-self, near-widen}
 use Rattle.loan_charge.proofs.ScaledValue.{Held}
 
@@ -80,10 +80,6 @@ factor-near m = record { low = omega arith; high = omega arith }
 abbrev pub limitedNum : ℕ → ℕ → ℕ → ℕ
 limitedNum p q c = min (c * 100 * q + 120000 * (p - q)) (1380000 * q)
 
--- the same in the units of z
-abbrev limited : ℕ → ℕ → ℕ
-limited w c = min (c * 100 * 2 ^ 27 + (w - unit)) (1380000 * 2 ^ 27)
-
 module _ {P q w : ℕ} (h : Held P q w) (c : ℕ) where
   less-one : (w - unit) * q + unit * q ≡ w * q
   less-one = omega (arith, ap (λ (t : ℕ). t * q) (sub-add-cancel (h .least)))
@@ -92,19 +88,19 @@ module _ {P q w : ℕ} (h : Held P q w) (c : ℕ) where
   limited-low =
       omega (
         arith,
-        mul-le-mul-right q (min-le-left (c * 100 * 2 ^ 27 + (w - unit)) (1380000 * 2 ^ 27)),
-        mul-le-mul-right q (min-le-right (c * 100 * 2 ^ 27 + (w - unit)) (1380000 * 2 ^ 27)),
+        mul-le-mul-right q (min-le-left (c * 100 * 2 ^ 27 + (w - unit)) limit),
+        mul-le-mul-right q (min-le-right (c * 100 * 2 ^ 27 + (w - unit)) limit),
         less-one,
         h .low,
         h .value,
       )
 
   limited-high : 2 ^ 27 * limitedNum P q c ≤ (limited w c + 1) * q
-  limited-high = go (decLe (c * 100 * 2 ^ 27 + (w - unit)) (1380000 * 2 ^ 27))
+  limited-high = go (decLe (c * 100 * 2 ^ 27 + (w - unit)) limit)
     where
-      go : Dec (c * 100 * 2 ^ 27 + (w - unit) ≤ 1380000 * 2 ^ 27) → 2 ^ 27 * limitedNum P q c ≤ (limited w c + 1) * q
+      go : Dec (c * 100 * 2 ^ 27 + (w - unit) ≤ limit) → 2 ^ 27 * limitedNum P q c ≤ (limited w c + 1) * q
       go (yes k) = rw (min-eq-left k) (omega (arith, less-one, h .value, h .high (omega arith)))
-      go (no k) = rw (min-eq-right {n = 1380000 * 2 ^ 27} {m = c * 100 * 2 ^ 27 + (w - unit)} (le-of-lt (lt-of-not-le k))) (omega arith)
+      go (no k) = rw (min-eq-right {n = limit} {m = c * 100 * 2 ^ 27 + (w - unit)} (le-of-lt (lt-of-not-le k))) (omega arith)
 
   limit-near : Near (limited w c * 8192 / 1200000) (2 ^ 40 * limitedNum P q c) (1200000 * q) 0 2
   limit-near = limit-step (limited w c) q (limitedNum P q c) limited-low limited-high
@@ -255,7 +251,7 @@ unfolding roundedUp signed
 rounded-above {np} {nm} {d} {αp} {βp} {αm} {βm} x y b h a a' pos =
     let P : ℕ = x .plus + y .plus in
     let M : ℕ = x .minus + y .minus in
-    let t : ℕ = (P + (100000 * 1200000 + 500 + 1199999) - M) / 1200000 in
+    let t : ℕ = (P + raised - M) / 1200000 in
     record {
       low = up-low P M t np nm d (t - 100000) (100000 - t) αp βp αm βm (omega arith) (b .plus-near) (b .minus-near) (omega arith) a;
       high = up-high P M t np nm d (t - 100000) (100000 - t) αp βp αm βm (omega arith) (b .plus-near) (b .minus-near) (omega arith) a' pos;
@@ -267,7 +263,7 @@ unfolding roundedDown signed
 rounded-below {np} {nm} {d} {αp} {βp} {αm} {βm} x b h a a' pos =
     let P : ℕ = x .plus in
     let M : ℕ = x .minus in
-    let t : ℕ = (P + (100000 * 1200000 - 11000) - M) / 1200000 in
+    let t : ℕ = (P + lowered - M) / 1200000 in
     record {
       high = down-high P M t np nm d (t - 100000) (100000 - t) αp βp αm βm (omega arith) (b .plus-near) (b .minus-near) (omega arith) a;
       low = down-low P M t np nm d (t - 100000) (100000 - t) αp βp αm βm (omega arith) (b .plus-near) (b .minus-near) (omega arith) a' pos;

@@ -72,15 +72,17 @@ short-step h e₁ e₂ = divided-step 134217728 (divided-step 120000 h e₁) e�
 
 -- The three cases of the value.
 
+held-is : {n : ℕ} (v : ℕ) → n ≡ v → v ≤ 16 * unit → v ≡ min (16 * unit) n
+held-is v e h = omega arith
+
 pub value-least : (p q : ℕ) → p < q → unit ≡ scaledValue p q
 unfolding scaledValue
-value-least p q h = rw (max-eq-right (le-of-lt h), mul-div-cancel unit (lt-of-le-of-lt zero-le h))
+value-least p q h = held-is unit (div-eq-of-lt-le q (omega arith) (omega arith)) (omega arith)
 
 pub value-most : (p q : ℕ) → 0 < q → q ≤ p → 16 ≤ p / q → 16 * unit ≡ scaledValue p q
 unfolding scaledValue
 value-most p q pos h k =
-    rw (max-eq-left h)
-    (sym (min-eq-left (le-div-iff-mul-le pos .1 (omega (arith, mul-le-mul-right q k, div-mul-le-self p q)))))
+    sym (min-eq-left (le-div-iff-mul-le pos .1 (omega (arith, mul-le-mul-right q k, div-mul-le-self p q))))
 
 pub value-between : (p q r : ℕ) → 0 < q → q ≤ p → p / q < 16 → r ≡ unit * (p / q * q + p % q) / q → r ≡ scaledValue p q
 unfolding scaledValue

@@ -9,7 +9,7 @@ use Rattle.exponential.specs.Exponential.{expUpper}
 use Rattle.exponential.proofs.Laws as Exponential
 use Rattle.loan_charge.specs.Coefficients.{Curve}
 use Rattle.loan_charge.specs.Integers.{Months, scaledA, scaledB, scaledC, tenthsB}
-use Rattle.loan_charge.specs.Computation.{exponent, height, heights, Usable, weighted, factor, rate, sum, times, baseUnits, rateUnits}
+use Rattle.loan_charge.specs.Computation.{scaleA, exponent, height, heights, Usable, weighted, factor, rate, sum, times, baseUnits, rateUnits}
 use Rattle.loan_charge.specs.declared.coefficients.ScaledCurve.{ScaledCurve}
 use Rattle.loan_charge.specs.declared.charge.Heights.{Heights}
 use Rattle.loan_charge.specs.declared.charge.LoanCharge.{LoanCharge}
@@ -56,9 +56,9 @@ heights-small w c = record {
 }
 
 pub weighted-a-most : (first : Bool) (w : ℕ) {n : ℕ} → Months n →
-    AtMost (298560000011 + 459600000017) 9050000000 (weighted (10 ^ 7) (scaledA first n) (heights w (scaledA first n)))
+    AtMost (298560000011 + 459600000017) 9050000000 (weighted scaleA (scaledA first n) (heights w (scaledA first n)))
 weighted-a-most first w {n} h =
-    weighted-most (10 ^ 7) (10 ^ 7) 29856 45960 905 298560000011 459600000017 9050000000 (omega arith)
+    weighted-most scaleA (10 ^ 7) 29856 45960 905 298560000011 459600000017 9050000000 (omega arith)
     (weights (scaled-a n h first)) (heights-small w (scaledA first n)) (omega arith) (omega arith) (omega arith)
 
 pub weighted-b-most : (first : Bool) (w k : ℕ) {n : ℕ} → Months n → k ≤ 2 * 10 ^ 8 →
@@ -70,7 +70,7 @@ weighted-b-most first w k {n} h hk =
 -- A and B together
 pub sum-most : (first : Bool) (w k : ℕ) {n : ℕ} → Months n → k ≤ 2 * 10 ^ 8 →
     AtMost 39735000000000 9050000000
-    (sum (weighted (10 ^ 7) (scaledA first n) (heights w (scaledA first n))) (weighted k (scaledB first n) (heights w (scaledB first n))))
+    (sum (weighted scaleA (scaledA first n) (heights w (scaledA first n))) (weighted k (scaledB first n) (heights w (scaledB first n))))
 sum-most first w k h hk =
     let a = weighted-a-most first w h in
     let b = weighted-b-most first w k h hk in

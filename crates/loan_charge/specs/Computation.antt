@@ -59,9 +59,16 @@ weighted k c h = record {
 unfoldable pub factor : ℕ → ℕ
 factor m = m * 2 ^ 40 / 10 ^ 17
 
--- a + b e of the supplement's rate, in units of 2^-40: c in 12000ths, b in tenths, the exponential e in units of 2^-40
+-- 1.15, and a of the supplement's rate, in units of 1 / (10 unit): c in 12000ths
+abbrev pub limit : ℕ
+limit = 1380000 * 2 ^ 27
+
+abbrev pub limited : ℕ → ℕ → ℕ
+limited w c = min (c * 100 * 2 ^ 27 + (w - unit)) limit
+
+-- a + b e of the supplement's rate, in units of 2^-40: b in tenths, the exponential e in units of 2^-40
 unfoldable pub rate : ℕ → ℕ → ℕ → ℕ → ℕ
-rate w c b e = min (c * 100 * 2 ^ 27 + (w - unit)) (1380000 * 2 ^ 27) * 8192 / 1200000 + b * e / 10
+rate w c b e = limited w c * 8192 / 1200000 + b * e / 10
 
 abbrev pub sum : Signed → Signed → Signed
 sum x y = record { plus = x .plus + y .plus; minus = x .minus + y .minus }
@@ -74,20 +81,30 @@ times x f = record { plus = scaledProduct (x .plus) f; minus = scaledProduct (x 
 unfoldable pub signed : ℕ → Signed
 signed t = record { plus = t - 100000; minus = 100000 - t }
 
--- both amounts together in cents, rounded up after an addition that covers all errors
+-- What is added before rounding: the offset, with what covers all errors, on the side of the rounding.
+abbrev pub raised : ℕ
+raised = 100000 * 1200000 + 500 + 1199999
+
+abbrev pub lowered : ℕ
+lowered = 100000 * 1200000 - 11000
+
+-- two amounts together in cents, rounded up
 unfoldable pub roundedUp : Signed → Signed → Signed
-roundedUp x y = signed ((x .plus + y .plus + (100000 * 1200000 + 500 + 1199999) - (x .minus + y .minus)) / 1200000)
+roundedUp x y = signed ((x .plus + y .plus + raised - (x .minus + y .minus)) / 1200000)
 
--- an amount in cents, rounded down after a subtraction that covers all errors
+-- an amount in cents, rounded down
 unfoldable pub roundedDown : Signed → Signed
-roundedDown x = signed ((x .plus + (100000 * 1200000 - 11000) - x .minus) / 1200000)
+roundedDown x = signed ((x .plus + lowered - x .minus) / 1200000)
 
--- the base: A counts 10^7 times and B by the balance in cents, both in 12ths
+-- The base: A counts this many times and B by the balance in cents, both in 12ths.
+abbrev pub scaleA : ℕ
+scaleA = 10 ^ 7
+
 unfoldable pub baseUnits : Bool → ℕ → ℕ → ℕ → ℕ → Signed
 baseUnits first w balance months m =
     times
     (sum
-    (weighted (10 ^ 7) (scaledA first months) (heights w (scaledA first months)))
+    (weighted scaleA (scaledA first months) (heights w (scaledA first months)))
     (weighted balance (scaledB first months) (heights w (scaledB first months))))
     (factor m)
 

@@ -4,7 +4,7 @@ use native.Mathlib.Omega.{arith}
 use Rattle.loan_charge.proofs.Sizes.{usable-a, usable-b, weighted-a-most, weighted-b-most, sum-most, factor-most}
 use Rattle.loan_charge.specs.declared.charge.Signed.{Signed}
 use Rattle.loan_charge.specs.declared.coefficients.ScaledCurve.{ScaledCurve}
-use Rattle.loan_charge.specs.Computation.{Usable, heights, weighted, sum, times}
+use Rattle.loan_charge.specs.Computation.{scaleA, Usable, heights, weighted, sum, times}
 use Rattle.loan_charge.proofs.Money.{AtMost}
 use mathlib.Core.Path.{subst⁻¹, ap₂}
 use Prim.Native.Nat.{_^_}
@@ -38,7 +38,7 @@ curve-units-requires-2 c κs = (
 sum-of-requires : tie.Need-sum-of-requires
 sum-of-requires c κs =
     let a : AtMost (298560000011 + 459600000017) 9050000000 (c .before .before .curve-units .result) =
-    subst⁻¹ (λ (x : Signed). AtMost (298560000011 + 459600000017) 9050000000 x) (c .before .before .curve-units .ensures ∙ ap (λ (x : ScaledCurve). weighted (10 ^ 7) x (heights (c .before .before .before .before .args .w) x)) (c .before .before .before .curve-a .ensures))
+    subst⁻¹ (λ (x : Signed). AtMost (298560000011 + 459600000017) 9050000000 x) (c .before .before .curve-units .ensures ∙ ap (λ (x : ScaledCurve). weighted scaleA x (heights (c .before .before .before .before .args .w) x)) (c .before .before .before .curve-a .ensures))
     (weighted-a-most (c .before .before .before .before .args .first) (c .before .before .before .before .args .w) (c .before .before .before .before .pre .2)) in
     let b : AtMost (28848000001101 + 10128000000386) 0 (c .curve-units2 .result) =
     subst⁻¹ (λ (x : Signed). AtMost (28848000001101 + 10128000000386) 0 x) (c .curve-units2 .ensures ∙ ap (λ (x : ScaledCurve). weighted (c .before .before .before .before .args .balance) x (heights (c .before .before .before .before .args .w) x)) (c .before .curve-b .ensures))
@@ -52,7 +52,7 @@ times-rate-requires : tie.Need-times-rate-requires
 times-rate-requires c κs =
     let s : AtMost 39735000000000 9050000000 (c .before .sum-of .result) =
     subst⁻¹ (λ (x : Signed). AtMost 39735000000000 9050000000 x)
-    (c .before .sum-of .ensures ∙ ap₂ sum (c .before .before .before .before .curve-units .ensures ∙ ap (λ (x : ScaledCurve). weighted (10 ^ 7) x (heights (c .before .before .before .before .before .before .args .w) x)) (c .before .before .before .before .before .curve-a .ensures)) (c .before .before .curve-units2 .ensures ∙ ap (λ (x : ScaledCurve). weighted (c .before .before .before .before .before .before .args .balance) x (heights (c .before .before .before .before .before .before .args .w) x)) (c .before .before .before .curve-b .ensures)))
+    (c .before .sum-of .ensures ∙ ap₂ sum (c .before .before .before .before .curve-units .ensures ∙ ap (λ (x : ScaledCurve). weighted scaleA x (heights (c .before .before .before .before .before .before .args .w) x)) (c .before .before .before .before .before .curve-a .ensures)) (c .before .before .curve-units2 .ensures ∙ ap (λ (x : ScaledCurve). weighted (c .before .before .before .before .before .before .args .balance) x (heights (c .before .before .before .before .before .before .args .w) x)) (c .before .before .before .curve-b .ensures)))
     (sum-most (c .before .before .before .before .before .before .args .first) (c .before .before .before .before .before .before .args .w) (c .before .before .before .before .before .before .args .balance) (c .before .before .before .before .before .before .pre .2) (c .before .before .before .before .before .before .pre .1)) in
     (omega (arith, s .plus), omega (arith, s .minus), omega (arith, c .factor-of .ensures, factor-most (c .before .before .before .before .before .before .args .m) (c .before .before .before .before .before .before .pre .3)))
 
@@ -60,7 +60,7 @@ returns : tie.Need-returns
 unfolding baseUnits
 returns c =
     c .times-rate .ensures ∙
-    ap₂ times (c .before .before .sum-of .ensures ∙ ap₂ sum (c .before .before .before .before .before .curve-units .ensures ∙ ap (λ (x : ScaledCurve). weighted (10 ^ 7) x (heights (c .before .before .before .before .before .before .before .args .w) x)) (c .before .before .before .before .before .before .curve-a .ensures)) (c .before .before .before .curve-units2 .ensures ∙ ap (λ (x : ScaledCurve). weighted (c .before .before .before .before .before .before .before .args .balance) x (heights (c .before .before .before .before .before .before .before .args .w) x)) (c .before .before .before .before .curve-b .ensures))) (c .before .factor-of .ensures)
+    ap₂ times (c .before .before .sum-of .ensures ∙ ap₂ sum (c .before .before .before .before .before .curve-units .ensures ∙ ap (λ (x : ScaledCurve). weighted scaleA x (heights (c .before .before .before .before .before .before .before .args .w) x)) (c .before .before .before .before .before .before .curve-a .ensures)) (c .before .before .before .curve-units2 .ensures ∙ ap (λ (x : ScaledCurve). weighted (c .before .before .before .before .before .before .before .args .balance) x (heights (c .before .before .before .before .before .before .before .args .w) x)) (c .before .before .before .before .curve-b .ensures))) (c .before .factor-of .ensures)
 
 pub base-units-spec : {M : Type 1} → statement M
 base-units-spec =
