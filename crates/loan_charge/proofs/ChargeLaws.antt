@@ -14,6 +14,7 @@ use Rattle.exact.specs.Quantity.{Assignment, Quantity, Exponent, Eventually}
 use Rattle.exact.proofs.Fractions
 use Rattle.exact.proofs.Bridge.{At, high-is, high-proper}
 use Rattle.exact.proofs.Quantities.{Exponents, takes, mapped, some-allowed}
+use Rattle.exact.proofs.Within.{Within}
 use Rattle.exact.proofs.Sums.{num, den, num-pos}
 use Rattle.exponential.specs.Exponential.{expUpper}
 use Rattle.exponential.proofs.Laws as Exponential
@@ -469,3 +470,23 @@ pub charge-alike : (p q p' q' balance months term : ℕ) (supplement : Bool) (m 
 unfolding chargeOf
 charge-alike p q p' q' balance months term supplement m pos pos' e =
     ap (λ (w : ℕ). chargeFrom supplement (baseUnits (firstSet term) w balance months m) (rateUnits (firstSet term) w months)) (value-alike p q p' q' pos pos' e)
+
+-- The same as distances, for sums over many loans.
+
+pub total-within : {r : LoanCharge} {total supplement : Fraction} → NearExact r total supplement → Within total (signedCents (r .total)) tolerance
+total-within n = record {
+  lower = n .total-proper;
+  upper = record { positive = omega arith };
+  width = record { positive = omega arith };
+  at-most = n .total-at-least;
+  near = record { crossed = omega (arith, n .total-near .crossed) };
+}
+
+pub supplement-within : {r : LoanCharge} {total supplement : Fraction} → NearExact r total supplement → Within (signedCents (r .supplement)) supplement tolerance
+supplement-within n = record {
+  lower = record { positive = omega arith };
+  upper = n .supplement-proper;
+  width = record { positive = omega arith };
+  at-most = n .supplement-at-most;
+  near = record { crossed = omega (arith, n .supplement-near .crossed) };
+}

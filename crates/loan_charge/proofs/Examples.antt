@@ -1,8 +1,9 @@
--- Document 01, "Proved examples", 2, 3, 4, 6 and 7.
+-- Document 01, "Proved examples", 2 to 7.
 use Prim.Native.Nat.{ℕ}
 use mathlib.Core.Bool.{Bool, true, false}
 use mathlib.Core.Path.{_≡_, refl}
 use Rattle.exact.specs.Fraction.{quotient, whole, negated, _≈_}
+use Rattle.loan_charge.specs.Charge.{gaussExponent, valueRatio}
 use Rattle.loan_charge.specs.Coefficients.{curveA, weight1A, weight2A, deviation2A}
 use Rattle.loan_charge.specs.CreditFactor.{hundredths, count, band, column, columnServing, builtInRates, scoredFactor, unscoredFactor, creditFactor}
 use Rattle.loan_charge.specs.declared.Score.the-variants.{Scored, Unscored}
@@ -35,3 +36,9 @@ pub example7 : (aged : Bool)
     → (creditFactor builtInRates aged 20 1 Unscored ≡ hundredths 130) × (creditFactor builtInRates aged 19 1 Unscored ≡ hundredths 300)
 unfolding creditFactor unscoredFactor
 example7 aged = (refl, refl)
+
+-- z 1, μ 90%, σ 17%: y 50/289. A value below the balance has the same z.
+pub example5 : (gaussExponent (valueRatio 100 100) (quotient 90 100) (quotient 17 100) ≈ quotient 50 289)
+    × (gaussExponent (valueRatio 90 100) (quotient 90 100) (quotient 17 100) ≈ quotient 50 289)
+unfolding gaussExponent valueRatio
+example5 = (record { crossed = refl }, record { crossed = refl })
