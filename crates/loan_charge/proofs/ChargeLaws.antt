@@ -21,12 +21,12 @@ use Rattle.exponential.proofs.Laws as Exponential
 use Rattle.exact.specs.Choice.{pick}
 use Rattle.loan_charge.specs.Coefficients.{Curve, firstSet, curveA, curveB}
 use Rattle.loan_charge.specs.Integers.{Months, scaledA, scaledB, scaledC, tenthsB}
-use Rattle.loan_charge.specs.Charge.{valueRatio, exponent1, exponent2, exactBase, rateA, exactRate, exactSupplement, exactTotal, baseExponents, rateExponents, totalExponents, supplementExponents, totalQuantity, supplementQuantity, signedCents, tolerance, NearExact, Promised, InRange}
+use Rattle.loan_charge.specs.Charge.{valueRatio, gaussExponent, exponent1, exponent2, exactBase, rateA, exactRate, exactSupplement, exactTotal, baseExponents, rateExponents, totalExponents, supplementExponents, totalQuantity, supplementQuantity, signedCents, tolerance, NearExact, Promised, InRange}
 use Rattle.loan_charge.specs.Computation.{scaleA, scaledValue, signed, height, heights, weighted, sum, times, roundedUp, roundedDown, none, baseUnits, rateUnits, chargeFrom, chargeOf, Chargeable}
 use Rattle.loan_charge.specs.declared.coefficients.ScaledCurve.{ScaledCurve}
 use Rattle.loan_charge.specs.declared.charge.LoanCharge.{LoanCharge}
 use Rattle.fixed_point.specs.declared.Signed.{Signed}
-use Rattle.loan_charge.proofs.CoefficientLaws.{ScaledCurveOf, scaled-a, scaled-b, scaled-c, tenths-b}
+use Rattle.loan_charge.proofs.CoefficientLaws.{Mean, Deviation, ScaledCurveOf, scaled-a, scaled-b, scaled-c, tenths-b}
 use Rattle.loan_charge.proofs.ExactValues.{ValueAt, cents, ratio-is, ratio-proper, exponent-at, curvePlus, curveMinus, curve-proper, curve-is, base-proper, base-is, rate-proper, rate-is, product-is, sum-is}
 use Rattle.loan_charge.proofs.Gauss.{gauss-near, months-near, value-at, exponentNum, exponentDen}
 use Rattle.loan_charge.proofs.Money.{Value, Both, Above, Below, AtMost, both-add, both-times, weighted-near, factor-near, rateNum, rateDen, rate-near, rate-most, rounded-above, rounded-below}
@@ -207,28 +207,23 @@ module _ (p q : ℕ) (pos : 0 < q) where
   abbrev z : Fraction
   z = valueRatio p q
 
+  gauss-enclosed : {mean deviation : Fraction} {i s : ℕ} → Mean mean i → Deviation deviation s → Enclosed (height w i s) (gaussExponent z mean deviation)
+  unfolding height
+  gauss-enclosed {i = i} {s = s} μ σ = record {
+    a = exponentNum (max p q) q i;
+    d = exponentDen q s;
+    at = exponent-at (ratio-proper p q pos) (ratio-is p q) pos (μ .proper) (μ .same) (σ .proper) (σ .same) (omega (arith, σ .least));
+    near = gauss-near (held p q pos) i s (μ .most) (σ .least) (σ .most);
+  }
+
   module _ {w₁ p₂ m₂ : ℕ} {curve : Curve} {s : ScaledCurve} (c : ScaledCurveOf w₁ p₂ m₂ curve s) where
     first-enclosed : Enclosed (heights w s .first) (exponent1 curve z)
-    unfolding heights height
-    first-enclosed = record {
-      a = exponentNum (max p q) q (s .mean1);
-      d = exponentDen q (s .deviation1);
-      at =
-          exponent-at (ratio-proper p q pos) (ratio-is p q) pos (c .mean1 .proper) (c .mean1 .same) (c .deviation1 .proper) (c .deviation1 .same)
-          (omega (arith, c .deviation1 .least));
-      near = gauss-near (held p q pos) (s .mean1) (s .deviation1) (c .mean1 .most) (c .deviation1 .least) (c .deviation1 .most);
-    }
+    unfolding heights
+    first-enclosed = gauss-enclosed (c .mean1) (c .deviation1)
 
     second-enclosed : Enclosed (heights w s .second) (exponent2 curve z)
-    unfolding heights height
-    second-enclosed = record {
-      a = exponentNum (max p q) q (s .mean2);
-      d = exponentDen q (s .deviation2);
-      at =
-          exponent-at (ratio-proper p q pos) (ratio-is p q) pos (c .mean2 .proper) (c .mean2 .same) (c .deviation2 .proper) (c .deviation2 .same)
-          (omega (arith, c .deviation2 .least));
-      near = gauss-near (held p q pos) (s .mean2) (s .deviation2) (c .mean2 .most) (c .deviation2 .least) (c .deviation2 .most);
-    }
+    unfolding heights
+    second-enclosed = gauss-enclosed (c .mean2) (c .deviation2)
 
   module _ (first : Bool) (balance months m : ℕ) (hm : Months months) (balance-most : balance ≤ 2 * 10 ^ 8) (factor-most : m ≤ 3 * 10 ^ 17) (exp : Assignment) where
     -- the base at one order
@@ -242,9 +237,12 @@ module _ (p q : ℕ) (pos : 0 < q) where
       abbrev b : ScaledCurve
       b = scaledB first months
 
-      curves-both : Both (sum (weighted scaleA a (heights w a)) (weighted balance b (heights w b)))
-          (scaleA * curvePlus a (v₁ .N) (v₁ .D) (v₂ .N) (v₂ .D) * (v₃ .D * v₄ .D) + balance * curvePlus b (v₃ .N) (v₃ .D) (v₄ .N) (v₄ .D) * (v₁ .D * v₂ .D))
-          (scaleA * curveMinus a (v₁ .N) (v₁ .D) (v₂ .N) (v₂ .D) * (v₃ .D * v₄ .D) + balance * curveMinus b (v₃ .N) (v₃ .D) (v₄ .N) (v₄ .D) * (v₁ .D * v₂ .D))
+      -- the numerator of A + B × balance / 10^7, of the terms with a plus or with a minus
+      abbrev numerator : (ScaledCurve → ℕ → ℕ → ℕ → ℕ → ℕ) → ℕ
+      numerator part =
+          scaleA * part a (v₁ .N) (v₁ .D) (v₂ .N) (v₂ .D) * (v₃ .D * v₄ .D) + balance * part b (v₃ .N) (v₃ .D) (v₄ .N) (v₄ .D) * (v₁ .D * v₂ .D)
+
+      curves-both : Both (sum (weighted scaleA a (heights w a)) (weighted balance b (heights w b))) (numerator curvePlus) (numerator curveMinus)
           (v₁ .D * v₂ .D * (v₃ .D * v₄ .D)) 1519 4 1 2
       curves-both =
           both-add
@@ -269,8 +267,8 @@ module _ (p q : ℕ) (pos : 0 < q) where
           let A-pos : 0 < v₁ .D * v₂ .D = mul-pos (v₁ .exact .positive) (v₂ .exact .positive) in
           let B-pos : 0 < v₃ .D * v₄ .D = mul-pos (v₃ .exact .positive) (v₄ .exact .positive) in
           record {
-            plus = (scaleA * curvePlus a (v₁ .N) (v₁ .D) (v₂ .N) (v₂ .D) * (v₃ .D * v₄ .D) + balance * curvePlus b (v₃ .N) (v₃ .D) (v₄ .N) (v₄ .D) * (v₁ .D * v₂ .D)) * m;
-            minus = (scaleA * curveMinus a (v₁ .N) (v₁ .D) (v₂ .N) (v₂ .D) * (v₃ .D * v₄ .D) + balance * curveMinus b (v₃ .N) (v₃ .D) (v₄ .N) (v₄ .D) * (v₁ .D * v₂ .D)) * m;
+            plus = numerator curvePlus * m;
+            minus = numerator curveMinus * m;
             over = v₁ .D * v₂ .D * (v₃ .D * v₄ .D) * 10 ^ 17;
             positive = omega (arith, mul-pos A-pos B-pos);
             proper = base-proper A-proper A-same B-proper B-same A-pos B-pos balance m;
@@ -441,21 +439,27 @@ module _ (p q balance months term m : ℕ) (c : Chargeable q balance months m) w
   unfolding roundedDown signed
   down-range x h = record { most = omega arith; least = omega arith; one-sided = omega arith }
 
-  base-small : AtMost 119205000000000 27150000000 (baseUnits (firstSet term) (scaledValue p q) balance months m)
+  abbrev base : Signed
+  base = baseUnits (firstSet term) (scaledValue p q) balance months m
+
+  abbrev r-units : ℕ
+  r-units = rateUnits (firstSet term) (scaledValue p q) months
+
+  base-small : AtMost 119205000000000 27150000000 base
   base-small = base-most (firstSet term) (scaledValue p q) balance months m (months-in p q balance months term m c) (c .balance-most) (c .factor-most)
 
-  supplement-small : AtMost 238410000000000 54300000000 (times (baseUnits (firstSet term) (scaledValue p q) balance months m) (rateUnits (firstSet term) (scaledValue p q) months))
+  supplement-small : AtMost 238410000000000 54300000000 (times base r-units)
   supplement-small = supplement-most base-small (rate-units-most (firstSet term) (scaledValue p q) months (months-in p q balance months term m c))
 
   pub charge-range : (supplement : Bool) →
       InRange (chargeOf p q balance months term supplement m .total) × InRange (chargeOf p q balance months term supplement m .supplement)
   unfolding chargeOf chargeFrom
   charge-range true = (
-    up-range (baseUnits (firstSet term) (scaledValue p q) balance months m) (times (baseUnits (firstSet term) (scaledValue p q) balance months m) (rateUnits (firstSet term) (scaledValue p q) months)) (base-small .plus) (supplement-small .plus),
-    down-range (times (baseUnits (firstSet term) (scaledValue p q) balance months m) (rateUnits (firstSet term) (scaledValue p q) months)) (supplement-small .plus),
+    up-range base (times base r-units) (base-small .plus) (supplement-small .plus),
+    down-range (times base r-units) (supplement-small .plus),
   )
   charge-range false = (
-    up-range (baseUnits (firstSet term) (scaledValue p q) balance months m) none (base-small .plus) (omega arith),
+    up-range base none (base-small .plus) (omega arith),
     record { most = omega arith; least = omega arith; one-sided = omega arith },
   )
 
