@@ -1,7 +1,7 @@
 -- A law that holds from some order on with exp(-y) taken as 1 / E(m) gives document 01's statements about every allowed order.
 -- Assumes nothing.
 use mathlib.Core.Path.{_≡_, refl}
-use mathlib.Core.List.{List, [], _∷_, List·Memᴰ, List·Memᴰ·head, List·Memᴰ·tail, List·Memᴰ·not-nil, List·Memᴰ·cases-cons}
+use mathlib.Core.List.{List, [], _∷_, List·Memᴰ, List·Memᴰ·head, List·Memᴰ·tail, List·Memᴰ·not-nil, List·Memᴰ·cases-cons, List·Memᴰ·append-cases, _++_}
 use mathlib.Core.Logic.{⊎-elim}
 use Prim.Native.Nat.{ℕ, _+_, _-_, _*_, _≤_, max}
 use native.Mathlib.Nat.{le-max-left, le-max-right, le-trans, mul-le-mul-left}
@@ -14,6 +14,15 @@ use Rattle.exact.proofs.Bridge.{At, at-of, at-same, inside, high-alike,
 -- every fraction of the list is an exponent
 abbrev pub Exponents : List Fraction → Type 0
 Exponents ys = (y : Fraction) → List·Memᴰ y ys → Exponent y
+
+pub no-exponents : Exponents []
+no-exponents y k = absurd (List·Memᴰ·not-nil k)
+
+pub more-exponents : {y : Fraction} {ys : List Fraction} → Exponent y → Exponents ys → Exponents (y ∷ ys)
+more-exponents h hs y k = ⊎-elim (λ e. rw e h) (λ j. hs y j) (List·Memᴰ·cases-cons k)
+
+pub appended-exponents : (xs : List Fraction) {ys : List Fraction} → Exponents xs → Exponents ys → Exponents (xs ++ ys)
+appended-exponents xs hx hy y k = ⊎-elim (λ j. hx y j) (λ j. hy y j) (List·Memᴰ·append-cases xs k)
 
 -- the natural numerator and denominator of an exponent
 at : {y : Fraction} → Exponent y → At y (y .plus - y .minus) (y .over)

@@ -2,8 +2,7 @@
 -- Assumes nothing.
 use mathlib.Core.Path.{_≡_, refl, ap}
 use mathlib.Core.Bool.{Bool, true, false}
-use mathlib.Core.List.{List, [], _∷_, _++_, List·Memᴰ·not-nil, List·Memᴰ·cases-cons, List·Memᴰ·append-cases}
-use mathlib.Core.Logic.{⊎-elim}
+use mathlib.Core.List.{[], _∷_, _++_}
 use lib.Dec.{leb}
 use Prim.Native.Nat.{ℕ, _+_, _*_, _/_, _^_, _≤_, _<_, max}
 use native.Mathlib.Omega.{arith}
@@ -13,7 +12,7 @@ use Rattle.exact.specs.Exponential.{bracketHigh}
 use Rattle.exact.specs.Quantity.{Assignment, Quantity, Exponent, Eventually}
 use Rattle.exact.proofs.Fractions
 use Rattle.exact.proofs.Bridge.{At, high-is, high-proper}
-use Rattle.exact.proofs.Quantities.{Exponents, takes, mapped, some-allowed}
+use Rattle.exact.proofs.Quantities.{Exponents, takes, mapped, some-allowed, no-exponents, more-exponents, appended-exponents}
 use Rattle.exact.proofs.Within.{Within}
 use Rattle.exact.proofs.Sums.{num, den, num-pos}
 use Rattle.exponential.specs.Exponential.{expUpper}
@@ -356,15 +355,6 @@ exponent-of e = record {
       (record { above = omega arith }) .above;
 }
 
-no-exponents : Exponents []
-no-exponents y k = absurd (List·Memᴰ·not-nil k)
-
-more-exponents : {y : Fraction} {ys : List Fraction} → Exponent y → Exponents ys → Exponents (y ∷ ys)
-more-exponents h hs y k = ⊎-elim (λ e. rw e h) (λ k'. hs y k') (List·Memᴰ·cases-cons k)
-
-appended-exponents : (xs : List Fraction) {ys : List Fraction} → Exponents xs → Exponents ys → Exponents (xs ++ ys)
-appended-exponents xs hx hy y k = ⊎-elim (λ k'. hx y k') (λ k'. hy y k') (List·Memᴰ·append-cases xs k)
-
 rate-exponents : (first : Bool) (months : ℕ) → Exponents (rateExponents first months)
 unfolding rateExponents
 rate-exponents true months = go (leb months 120)
@@ -386,7 +376,7 @@ module _ (p q balance months term m : ℕ) (c : Chargeable q balance months m) w
   all-exponents : Exponents (baseExponents (firstSet term) (valueRatio p q) months ++ rateExponents (firstSet term) months)
   all-exponents = appended-exponents (baseExponents (firstSet term) (valueRatio p q) months) base-exponents (rate-exponents (firstSet term) months)
 
-  total-exponents : (supplement : Bool) → Exponents (totalExponents supplement (firstSet term) (valueRatio p q) months)
+  pub total-exponents : (supplement : Bool) → Exponents (totalExponents supplement (firstSet term) (valueRatio p q) months)
   unfolding totalExponents
   total-exponents true = all-exponents
   total-exponents false = base-exponents

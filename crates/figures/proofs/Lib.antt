@@ -1,0 +1,4 @@
+pub mod DivisionLaws
+pub mod Examples
+pub mod FiguresLaws
+pub mod SumsLaws

@@ -1,0 +1,22 @@
+-- `figures::both_admitted` meets its contract. Assumes nothing.
+use Rattle.figures.specs.Figures.{admitted}
+use borrow.Author.Needs.{needs}
+use Rattle.figures.proofs.both_admitted.Statement.{statement}
+use Rattle.figures.proofs.both_admitted.Tie as tie
+
+admitted-b-requires : tie.Need-admitted-b-requires
+admitted-b-requires c κs = search needs
+
+admitted-c-requires : tie.Need-admitted-c-requires
+admitted-c-requires c κs = search needs
+
+add-result : tie.Need-add-result
+add-result c = search needs
+
+returns : tie.Need-returns
+unfolding admitted
+returns c = cc
+
+pub both-admitted-spec : {M : Type 1} → statement M
+both-admitted-spec =
+    tie.close (tie.spec admitted-b-requires admitted-c-requires add-result returns)

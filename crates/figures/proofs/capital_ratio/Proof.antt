@@ -1,0 +1,37 @@
+-- `figures::capital_ratio` meets its contract. Assumes nothing.
+use borrow.Author.Tests.{eq-eqb, ne-eqb}
+use Rattle.figures.specs.Figures.{ratioOf}
+use borrow.Author.Needs.{needs}
+use Rattle.figures.proofs.capital_ratio.Statement.{statement}
+use Rattle.figures.proofs.capital_ratio.Tie as tie
+
+returns : tie.Need-returns
+unfolding ratioOf
+returns c = rw (eq-eqb (c .before .args .required) 0 (c .if1 .taken))
+
+excess-requires : tie.Need-excess-requires
+excess-requires c κs = search needs
+
+ratio-size-requires : tie.Need-ratio-size-requires
+ratio-size-requires c κs = search needs
+
+excess-requires-2 : tie.Need-excess-requires-2
+excess-requires-2 c κs = search needs
+
+ratio-size-requires-2 : tie.Need-ratio-size-requires-2
+ratio-size-requires-2 c κs = search needs
+
+returns-2 : tie.Need-returns-2
+unfolding ratioOf
+returns-2 c = rw (ne-eqb (c .before .before .before .before .before .args .required) 0 (c .before .before .before .before .if1 .left)) (cc)
+
+pub capital-ratio-spec : {M : Type 1} → statement M
+capital-ratio-spec =
+    tie.close
+    (tie.spec
+    returns
+    excess-requires
+    ratio-size-requires
+    excess-requires-2
+    ratio-size-requires-2
+    returns-2)

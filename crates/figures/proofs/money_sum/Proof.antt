@@ -1,0 +1,16 @@
+-- `figures::money_sum` meets its contract. Assumes nothing.
+use borrow.Author.Needs.{needs}
+use Rattle.figures.proofs.money_sum.Statement.{statement}
+use Rattle.figures.proofs.money_sum.Tie as tie
+
+sum-requires : tie.Need-sum-requires
+sum-requires c κs = search needs
+
+sum-requires-2 : tie.Need-sum-requires-2
+sum-requires-2 c κs = search needs
+
+returns : tie.Need-returns
+returns c = cc
+
+pub money-sum-spec : {M : Type 1} → statement M
+money-sum-spec = tie.close (tie.spec sum-requires sum-requires-2 returns)

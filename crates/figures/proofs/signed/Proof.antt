@@ -1,0 +1,16 @@
+-- `figures::signed` meets its contract. Assumes nothing.
+use borrow.Author.Needs.{needs}
+use Rattle.figures.proofs.signed.Statement.{statement}
+use Rattle.figures.proofs.signed.Tie as tie
+
+excess-requires : tie.Need-excess-requires
+excess-requires c κs = search needs
+
+excess-requires-2 : tie.Need-excess-requires-2
+excess-requires-2 c κs = search needs
+
+returns : tie.Need-returns
+returns c = cc
+
+pub signed-spec : {M : Type 1} → statement M
+signed-spec = tie.close (tie.spec excess-requires excess-requires-2 returns)

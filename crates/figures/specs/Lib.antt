@@ -1,0 +1,4 @@
+pub mod Division
+pub mod Examples
+pub mod Figures
+pub mod Sums
