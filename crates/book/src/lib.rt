@@ -1,1 +1,173 @@
-// Opening, feeding and closing a book.
+// Opening, feeding and closing a book (document 01, "A book, line by line").
+ghost use mathlib.Core.Path.{_≡_};
+ghost use Rattle.exponential.specs.Table.{entries};
+ghost use Rattle.loan_charge.specs.CreditFactor.{builtInRates};
+ghost use Rattle.figures.specs.Sums.{Bounded, InLimits, plus};
+ghost use mathlib.Core.Bool.{false};
+ghost use Rattle.book.specs.Accepted.{loanBeyond, otherBeyond};
+ghost use Rattle.book.specs.Calls.{zeroHeader, emptyBook, opening, added, feedingLine, feeding, Sound, CountsOne};
+ghost use Rattle.book.specs.Ranges.{Ranged, LoanRanges};
+ghost use Rattle.book.specs.Share.{loanShare, unscoredCount};
+ghost use Rattle.book.specs.Terms.{termsWith};
+
+mod shares; // what a line adds to the sums
+
+use figures::Sums;
+use line_forms::Header;
+use line_forms::HeaderLine;
+use line_forms::Line;
+use line_forms::Loan;
+use loan_charge::Score;
+
+// A book: its header, which never changes, and the sums of the lines taken.
+pub struct Book {
+    pub header: Header,
+    pub sums: Sums,
+}
+
+// The answer of opening: a refusal, 0 for none, and the book.
+pub struct Opened {
+    pub refusal: u64,
+    pub book: Book,
+}
+
+// The answer of feeding: a refusal, 0 for none, and the book.
+pub struct Fed {
+    pub refusal: u64,
+    pub book: Book,
+}
+
+// A book with no line taken.
+fn empty(header: Header) -> Book
+    ensures { λ r. ⌜ r ≡ emptyBook header ⌝ }
+{
+    Book {
+        header,
+        sums: figures::none(),
+    }
+}
+
+fn zero_header() -> Header
+    ensures { λ r. ⌜ r ≡ zeroHeader ⌝ }
+{
+    Header {
+        loans: 0,
+        unscored: 0,
+        aged: false,
+        held: 0,
+    }
+}
+
+// A header line opens a book.
+pub fn open(line: &[u8]) -> Opened
+    ensures equation { λ r. ⌜ r ≡ opening (now (line .entry)) ⌝ }
+    ensures sound { λ r. ⌜ Sound (r .book) ⌝ }
+{
+    let read = line_forms::read_header(line);
+    match read {
+        HeaderLine::Header(header) => Opened {
+            refusal: 0,
+            book: empty(header),
+        },
+        HeaderLine::Refusal(refusal) => Opened {
+            refusal,
+            book: empty(zero_header()),
+        },
+    }
+}
+
+// A book with a line's share added.
+fn with_share(b: Book, share: Sums) -> Fed
+    requires { ⌜ Bounded (b .sums) × Bounded share × InLimits (plus (b .sums) share) ⌝ }
+    ensures { λ r. ⌜ r ≡ added false 0 b share ⌝ }
+{
+    let header = b.header;
+    let before = b.sums;
+    let sums = figures::add(before, share);
+    let book = Book { header, sums };
+    Fed { refusal: 0, book }
+}
+
+// A line that is not a loan: at most 100,000 are taken.
+fn add_other(b: Book, share: Sums) -> Fed
+    requires { ⌜ Sound b × Bounded share × CountsOne share ⌝ }
+    ensures { λ r. ⌜ r ≡ added (otherBeyond (b .sums .other)) 8 b share ⌝ }
+{
+    let sums = b.sums;
+    if 100000 <= sums.other {
+        return Fed {
+            refusal: 8,
+            book: b,
+        };
+    }
+    with_share(b, share)
+}
+
+// Whether a loan is beyond the header's loans, or one without a score beyond its unscored.
+fn loan_beyond(h: Header, sums: Sums, score: Score) -> bool
+    ensures { λ r. ⌜ r ≡ loanBeyond h (sums .loans) (sums .unscored) score ⌝ }
+{
+    (h.loans <= sums.loans) | ((shares::unscored(score) == 1) & (h.unscored <= sums.unscored))
+}
+
+fn add_loan(b: Book, exps: &[u64; 1537], rates: &[u64; 66], l: Loan) -> Fed
+    requires { ⌜ Sound b × LoanRanges l × (now exps ≡ entries) × (now rates ≡ builtInRates) ⌝ }
+    ensures { λ r. ⌜ r ≡ added (loanBeyond (b .header) (b .sums .loans) (b .sums .unscored) (l .score)) 5 b (loanShare (termsWith (b .header)) l) ⌝ }
+{
+    let header = b.header;
+    let sums = b.sums;
+    let score = l.score;
+    if loan_beyond(header, sums, score) {
+        return Fed {
+            refusal: 5,
+            book: b,
+        };
+    }
+    with_share(b, shares::loan(header, l, exps, rates))
+}
+
+// A line that was read.
+fn feed_line(b: Book, exps: &[u64; 1537], rates: &[u64; 66], line: Line) -> Fed
+    requires { ⌜ Sound b × Ranged line × (now exps ≡ entries) × (now rates ≡ builtInRates) ⌝ }
+    ensures { λ r. ⌜ r ≡ feedingLine b line ⌝ }
+{
+    match line {
+        Line::Loan(l) => add_loan(b, exps, rates, l),
+        Line::Policy(p) => {
+            let class = p.class;
+            add_other(b, shares::policy(class, p.premium, p.term, p.completed))
+        }
+        Line::Derivative(d) => add_other(b, shares::derivative(d)),
+        Line::Asset(a) => add_other(b, shares::asset(a)),
+        Line::Amount(a) => {
+            let item = a.item;
+            let x = a.amount;
+            add_other(b, shares::amount(item, x))
+        }
+        Line::Refusal(refusal) => Fed { refusal, book: b },
+    }
+}
+
+// A line is fed to a book, with both tables lent: for loops, since a constant array would be stored whole at every use.
+pub fn feed_with(b: Book, exps: &[u64; 1537], rates: &[u64; 66], line: &[u8]) -> Fed
+    requires { ⌜ Sound b × (now exps ≡ entries) × (now rates ≡ builtInRates) ⌝ }
+    ensures equation { λ r. ⌜ r ≡ feeding b (now (line .entry)) ⌝ }
+    ensures sound { λ r. ⌜ Sound (r .book) ⌝ }
+{
+    let read = line_forms::read_line(line);
+    let Line::Refusal(refusal) = read else {
+        return feed_line(b, exps, rates, read);
+    };
+    Fed { refusal, book: b }
+}
+
+// A line is fed to a book.
+pub fn feed(b: Book, line: &[u8]) -> Fed
+    requires { ⌜ Sound b ⌝ }
+    ensures equation { λ r. ⌜ r ≡ feeding b (now (line .entry)) ⌝ }
+    ensures sound { λ r. ⌜ Sound (r .book) ⌝ }
+{
+    let exps = exponential::table();
+    let rates = loan_charge::credit::rates();
+    feed_with(b, &exps, &rates, line)
+}

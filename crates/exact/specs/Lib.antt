@@ -3,3 +3,4 @@ pub mod Examples
 pub mod Exponential
 pub mod Fraction
 pub mod Quantity
+pub mod Text

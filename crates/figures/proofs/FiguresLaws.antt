@@ -12,7 +12,8 @@ use Rattle.figures.specs.declared.Money.{Money}
 use Rattle.figures.specs.declared.Sums.{Sums}
 use Rattle.figures.specs.declared.Ratio.the-variants.{Number, None}
 use Rattle.figures.specs.Sums.{inParts, Bounded, InLimits}
-use Rattle.figures.specs.Figures.{difference, wholeCents, requiredOf, positiveEquity, admitted, capitalOf, ratioSize, pickRatio, ratioOf, figuresOf, Within, RatioBounds, FigureBounds}
+use Rattle.exact.specs.Choice.{pick}
+use Rattle.figures.specs.Figures.{difference, wholeCents, requiredOf, positiveEquity, admitted, capitalOf, ratioSize, ratioOf, figuresOf, Within, RatioBounds, FigureBounds}
 
 -- what is admitted of b and c is no more than both
 pub admitted-le : (e b c : ℕ) → admitted e b c ≤ b + c
@@ -49,7 +50,7 @@ ratio-bounded capital required = go (eqb required 0) refl
           | no h ↦ omega (arith, ap (λ (t : ℕ). ratioSize true t required) (sub-eq-zero-of-le {n = capital .minus} {m = capital .plus} (omega arith)), size-zero true required pos)
         ]
 
-    go : (t : Bool) → eqb required 0 ≡ t → RatioBounds (pickRatio t None (Number (record { plus = above; minus = below })))
+    go : (t : Bool) → eqb required 0 ≡ t → RatioBounds (pick t None (Number (record { plus = above; minus = below })))
     go true e = tt
     go false e = record { above = size-le false (capital .plus - capital .minus) required; below = size-le true (capital .minus - capital .plus) required; one-side = one-side (omega (arith, eqb-false required 0 e)) }
 

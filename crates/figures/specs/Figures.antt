@@ -3,6 +3,7 @@
 use Prim.Native.Nat.{ℕ, _+_, _-_, _*_, _/_, _≤_, min}
 use mathlib.Core.Path.{_≡_}
 use mathlib.Core.Bool.{Bool, true, false}
+use Rattle.exact.specs.Choice.{pick}
 use lib.Dec.{eqb}
 use Rattle.fixed_point.specs.declared.Signed.{Signed}
 use Rattle.figures.specs.declared.Money.{Money}
@@ -61,14 +62,10 @@ rounded true x d = (x + (d - 1)) / d
 unfoldable pub ratioSize : Bool → ℕ → ℕ → ℕ
 ratioSize negative n required = min 10000000 (rounded negative (n * 15000) required)
 
-abbrev pub pickRatio : Bool → Ratio → Ratio → Ratio
-pickRatio true x y = x
-pickRatio false x y = y
-
 -- ratio: capital × 15,000 / required, rounded down toward minus infinity, held within ±10,000,000; none when required is 0
 unfoldable pub ratioOf : Signed → ℕ → Ratio
 ratioOf capital required =
-    pickRatio (eqb required 0) None
+    pick (eqb required 0) None
     (Number (record {
       plus = ratioSize false (capital .plus - capital .minus) required;
       minus = ratioSize true (capital .minus - capital .plus) required;

@@ -1,6 +1,8 @@
 -- The charges of what is no home loan (document 01, "The rest, and closing"), exact, in cents.
 use Prim.Native.Nat.{ℕ, _*_}
 use mathlib.Core.List.{List, [], _∷_}
+use Rattle.line_forms.specs.declared.Kind.{Kind}
+use Rattle.line_forms.specs.declared.Kind.the-variants.{Rate, Float, Fx, Equity, Metal, Other}
 use lib.ListN.{getD}
 use Rattle.exact.specs.Choice.{upTo}
 use Rattle.exact.specs.Fraction.{Fraction, quotient, whole, _⊕_, _⊗_, larger}
@@ -22,10 +24,22 @@ lossComponentsPercent = 40
 abbrev pub statedPercent : ℕ
 statedPercent = 100
 
+-- 002, 4.2.1.1: add-on factors in thousandths, at 12 and 60 months; none for a single-currency floating/floating swap
+unfoldable pub addOnThousandths : Kind → (months : ℕ) → ℕ
+addOnThousandths Rate n = upTo 12 n 0 (upTo 60 n 5 15)
+addOnThousandths Float n = 0
+addOnThousandths Fx n = upTo 12 n 10 (upTo 60 n 50 75)
+addOnThousandths Equity n = upTo 12 n 60 (upTo 60 n 80 100)
+addOnThousandths Metal n = upTo 12 n 70 (upTo 60 n 70 80)
+addOnThousandths Other n = upTo 12 n 100 (upTo 60 n 120 150)
+
+abbrev pub addOn : Kind → (months : ℕ) → Fraction
+addOn kind months = quotient (addOnThousandths kind months) 1000
+
 -- (the larger of cost and 0, plus notional × add-on × pays) × factor / 10,000
-unfoldable pub derivativeCharge : (cost : Fraction) (notional : ℕ) (addOn : Fraction) (pays factor : ℕ) → Fraction
-derivativeCharge cost notional addOn pays factor =
-    (larger cost (whole 0) ⊕ whole notional ⊗ addOn ⊗ whole pays) ⊗ quotient factor 10000
+unfoldable pub derivativeCharge : (kind : Kind) (cost : Fraction) (notional months pays factor : ℕ) → Fraction
+derivativeCharge kind cost notional months pays factor =
+    (larger cost (whole 0) ⊕ whole notional ⊗ addOn kind months ⊗ whole pays) ⊗ quotient factor 10000
 
 -- 002, 3.3: tenths of a per cent of the premium, by completed years from 0 on, one list for each column of original terms.
 -- 0 for no completed year and for a blank cell.

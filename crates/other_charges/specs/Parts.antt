@@ -1,6 +1,7 @@
 -- The same charges in ten-millionths of a cent, as the code computes them. Each is tied to the paper's by a law of proofs/ChargeLaws.antt.
 use Prim.Native.Nat.{ℕ, _+_, _*_}
-use Rattle.other_charges.specs.Charges.{provisionTenths}
+use Rattle.line_forms.specs.declared.Kind.{Kind}
+use Rattle.other_charges.specs.Charges.{provisionTenths, addOnThousandths}
 
 abbrev pub assetParts : (amount factor : ℕ) → ℕ
 assetParts amount factor = amount * factor * 1000
@@ -8,12 +9,11 @@ assetParts amount factor = amount * factor * 1000
 abbrev pub shareParts : (amount percent : ℕ) → ℕ
 shareParts amount percent = amount * percent * 100000
 
--- the add-on in thousandths
-abbrev pub derivativeParts : (cost notional addOn pays factor : ℕ) → ℕ
-derivativeParts cost notional addOn pays factor = (cost * 1000 + notional * addOn * pays) * factor
+-- cost is the replacement cost where that is positive, else 0
+abbrev pub derivativeParts : (kind : Kind) (cost notional months pays factor : ℕ) → ℕ
+derivativeParts kind cost notional months pays factor =
+    (cost * 1000 + notional * addOnThousandths kind months * pays) * factor
 
-abbrev pub provisionParts : (premium term done : ℕ) → ℕ
-provisionParts premium term done = premium * provisionTenths term done * 10000
-
-abbrev pub multiProvisionParts : (premium term done : ℕ) → ℕ
-multiProvisionParts premium term done = premium * provisionTenths term done * 12500
+-- scale is 10,000 for a provision as it stands and 12,500 for 1.25 times
+abbrev pub provisionParts : (premium term done scale : ℕ) → ℕ
+provisionParts premium term done scale = premium * provisionTenths term done * scale

@@ -1,23 +1,15 @@
 use Rattle.fixed_point.proofs.Laws.{bounded}
-use mathlib.Core.Path.{_≡_, refl, sym, _∙_, ap}
-use Prim.Native.Nat.{ℕ, _+_, _-_, _*_, _≤_, _<_}
 use native.Mathlib.Omega.{arith}
-use lib.ListN.{length, take, drop, getD}
 use borrow.Author.Needs.{needs}
 use Rattle.other_charges.proofs.asset_parts.Statement.{statement}
 use Rattle.other_charges.proofs.asset_parts.Tie as tie
-use Rattle.other_charges.proofs.asset_parts.Reads as reads
-use Rattle.other_charges.proofs.asset_parts.Lts as lts
 
--- src/lib.rt:12:5
 mul-result : tie.Need-mul-result
 mul-result c = omega (arith, bounded (c .args .amount) (c .args .factor) 100000000000 10000 (c .pre .0) (c .pre .1))
 
--- src/lib.rt:12:5
 mul-result-2 : tie.Need-mul-result-2
 mul-result-2 c = omega (arith, bounded (c .args .amount) (c .args .factor) 100000000000 10000 (c .pre .0) (c .pre .1))
 
--- src/lib.rt:8:1
 returns : tie.Need-returns
 returns c = search needs
 

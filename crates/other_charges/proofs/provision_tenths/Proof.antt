@@ -1,64 +1,45 @@
 use borrow.Author.Tests.{le-leb, lt-leb}
 use Rattle.other_charges.specs.Charges.{provisionTenths}
-use mathlib.Core.Path.{_≡_, refl, sym, _∙_, ap}
-use Prim.Native.Nat.{ℕ, _+_, _-_, _*_, _≤_, _<_}
-use native.Mathlib.Omega.{arith}
-use lib.ListN.{length, take, drop, getD}
 use borrow.Author.Needs.{needs}
 use Rattle.other_charges.proofs.provision_tenths.Statement.{statement}
 use Rattle.other_charges.proofs.provision_tenths.Tie as tie
-use Rattle.other_charges.proofs.provision_tenths.Reads as reads
-use Rattle.other_charges.proofs.provision_tenths.Lts as lts
-use Rattle.other_charges.proofs.cell.Reads as cell-reads
 
--- src/lib.rt:43:21
 slice-aggregate-cell : tie.Need-slice-aggregate-cell
 slice-aggregate-cell c = search needs
 
--- src/lib.rt:43:9
 cell-requires : tie.Need-cell-requires
 cell-requires c κs = search needs
 
--- src/lib.rt:43:9
 returns : tie.Need-returns
 unfolding provisionTenths
 returns c = rw (le-leb (c .before .before .before .args .term) 60 (c .before .before .if1 .taken)) (c .cell .ensures)
 
--- src/lib.rt:46:21
 slice-aggregate-cell-2 : tie.Need-slice-aggregate-cell-2
 slice-aggregate-cell-2 c = search needs
 
--- src/lib.rt:46:9
 cell-requires-2 : tie.Need-cell-requires-2
 cell-requires-2 c κs = search needs
 
--- src/lib.rt:46:9
 returns-2 : tie.Need-returns-2
 unfolding provisionTenths
 returns-2 c = rw (lt-leb _ _ (c .before .before .before .if1 .left), le-leb _ _ (c .before .before .if2 .taken)) (c .cell2 .ensures)
 
--- src/lib.rt:49:21
 slice-aggregate-cell-3 : tie.Need-slice-aggregate-cell-3
 slice-aggregate-cell-3 c = search needs
 
--- src/lib.rt:49:9
 cell-requires-3 : tie.Need-cell-requires-3
 cell-requires-3 c κs = search needs
 
--- src/lib.rt:49:9
 returns-3 : tie.Need-returns-3
 unfolding provisionTenths
 returns-3 c = rw (lt-leb _ _ (c .before .before .before .before .if1 .left), lt-leb _ _ (c .before .before .before .if2 .left), le-leb _ _ (c .before .before .if3 .taken)) (c .cell3 .ensures)
 
--- src/lib.rt:52:9
 slice-aggregate-cell-4 : tie.Need-slice-aggregate-cell-4
 slice-aggregate-cell-4 c = search needs
 
--- src/lib.rt:51:5
 cell-requires-4 : tie.Need-cell-requires-4
 cell-requires-4 c κs = search needs
 
--- src/lib.rt:39:1
 returns-4 : tie.Need-returns-4
 unfolding provisionTenths
 returns-4 c = rw (lt-leb _ _ (c .before .before .before .before .if1 .left), lt-leb _ _ (c .before .before .before .if2 .left), lt-leb _ _ (c .before .before .if3 .left)) (c .cell4 .ensures)

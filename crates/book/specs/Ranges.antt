@@ -1,0 +1,53 @@
+-- What is known of the numbers of a line or header that is read: the ranges of document 01, "A book, line by line", as far as the book needs them.
+use Prim.Native.Nat.{ℕ, _≤_}
+use Rattle.line_forms.specs.declared.Header.{Header}
+use Rattle.line_forms.specs.declared.Loan.{Loan}
+use Rattle.line_forms.specs.declared.Policy.{Policy}
+use Rattle.line_forms.specs.declared.Derivative.{Derivative}
+use Rattle.line_forms.specs.declared.Asset.{Asset}
+use Rattle.line_forms.specs.declared.Amount.{Amount}
+use Rattle.line_forms.specs.declared.Line.{Line}
+use Rattle.line_forms.specs.declared.Line.the-variants.{Loan as LoanLine, Policy as PolicyLine, Derivative as DerivativeLine, Asset as AssetLine, Amount as AmountLine, Refusal}
+use Rattle.line_forms.specs.declared.HeaderLine.{HeaderLine}
+use Rattle.line_forms.specs.declared.HeaderLine.the-variants.{Header as HeaderRead, Refusal as HeaderRefusal}
+
+pub record LoanRanges (l : Loan) : Type 0 where
+  pub balance-least : 1 ≤ l .balance
+  pub balance-most : l .balance ≤ 200000000
+  pub months-least : 1 ≤ l .amortization
+  pub months-most : l .amortization ≤ 480
+
+pub record PolicyRanges (p : Policy) : Type 0 where
+  pub premium : p .premium ≤ 100000000
+
+pub record DerivativeRanges (d : Derivative) : Type 0 where
+  pub cost : d .cost .plus ≤ 100000000000
+  pub notional : d .notional ≤ 100000000000
+  pub payments : d .payments ≤ 100
+  pub factor : d .factor ≤ 10000
+
+pub record AssetRanges (a : Asset) : Type 0 where
+  pub amount : a .amount ≤ 100000000000
+  pub factor : a .factor ≤ 10000
+
+pub record AmountRanges (a : Amount) : Type 0 where
+  pub plus : a .amount .plus ≤ 100000000000
+  pub minus : a .amount .minus ≤ 100000000000
+
+abbrev pub Ranged : Line → Type 0
+Ranged (LoanLine l) = LoanRanges l
+Ranged (PolicyLine p) = PolicyRanges p
+Ranged (DerivativeLine d) = DerivativeRanges d
+Ranged (AssetLine a) = AssetRanges a
+Ranged (AmountLine a) = AmountRanges a
+Ranged (Refusal n) = Unit {0}
+
+-- A header that is read.
+pub record HeaderRanges (h : Header) : Type 0 where
+  pub loans : h .loans ≤ 1000000
+  pub unscored : h .unscored ≤ h .loans
+  pub held : h .held ≤ 10000000000000
+
+abbrev pub RangedHeader : HeaderLine → Type 0
+RangedHeader (HeaderRead h) = HeaderRanges h
+RangedHeader (HeaderRefusal n) = Unit {0}

@@ -1,0 +1,195 @@
+// What a line adds to the sums of its book, one function for each kind.
+ghost use mathlib.Core.Path.{_≡_};
+ghost use Prim.Native.Nat.{_≤_, _-_};
+ghost use Rattle.exponential.specs.Table.{entries};
+ghost use Rattle.loan_charge.specs.CreditFactor.{builtInRates};
+ghost use Rattle.figures.specs.Sums.{zeroMoney, zeroSigned};
+ghost use Rattle.book.specs.Ranges.{LoanRanges, DerivativeRanges, AssetRanges};
+ghost use Rattle.book.specs.Share.{unscoredCount, otherShare, restShare, movedShare, capitalShare, policyShare, derivativeShare, assetShare, amountShare, loanShare};
+ghost use Rattle.book.specs.Terms.{termsWith, factorFor};
+use figures::Money;
+use figures::Sums;
+use fixed_point::Signed;
+use line_forms::Asset;
+use line_forms::Class;
+use line_forms::Derivative;
+use line_forms::Header;
+use line_forms::Item;
+use line_forms::Loan;
+use loan_charge::Score;
+
+fn no_money() -> Money
+    ensures { λ r. ⌜ r ≡ zeroMoney ⌝ }
+{
+    Money { cents: 0, parts: 0 }
+}
+
+fn no_amount() -> Signed
+    ensures { λ r. ⌜ r ≡ zeroSigned ⌝ }
+{
+    Signed { plus: 0, minus: 0 }
+}
+
+fn other(rest: Money, moved: Money, equity: Signed, aoci: Signed, b: u64, c: u64) -> Sums
+    ensures { λ r. ⌜ r ≡ otherShare rest moved equity aoci b c ⌝ }
+{
+    Sums {
+        loans: 0,
+        unscored: 0,
+        other: 1,
+        total: no_amount(),
+        supplement: no_amount(),
+        rest,
+        moved,
+        equity,
+        aoci,
+        b,
+        c,
+    }
+}
+
+// A line that adds n ten-millionths of a cent to rest.
+fn rest(n: u64) -> Sums
+    ensures { λ r. ⌜ r ≡ restShare n ⌝ }
+{
+    other(
+        figures::in_cents(n),
+        no_money(),
+        no_amount(),
+        no_amount(),
+        0,
+        0,
+    )
+}
+
+// A line that adds n ten-millionths of a cent to moved.
+fn moved(n: u64) -> Sums
+    ensures { λ r. ⌜ r ≡ movedShare n ⌝ }
+{
+    other(
+        no_money(),
+        figures::in_cents(n),
+        no_amount(),
+        no_amount(),
+        0,
+        0,
+    )
+}
+
+// A line that adds to capital.
+fn capital(equity: Signed, aoci: Signed, b: u64, c: u64) -> Sums
+    ensures { λ r. ⌜ r ≡ capitalShare equity aoci b c ⌝ }
+{
+    other(no_money(), no_money(), equity, aoci, b, c)
+}
+
+pub fn policy(class: Class, premium: u64, term: u64, completed: u64) -> Sums
+    requires { ⌜ premium ≤ 100000000 ⌝ }
+    ensures { λ r. ⌜ r ≡ policyShare class premium term completed ⌝ }
+{
+    match class {
+        Class::Home => moved(other_charges::provision_parts(premium, term, completed, 10000)),
+        Class::Multi => rest(other_charges::provision_parts(premium, term, completed, 12500)),
+    }
+}
+
+// The larger of the replacement cost and 0.
+fn positive(x: Signed) -> u64
+    ensures { λ r. ⌜ r ≡ x .plus - x .minus ⌝ }
+{
+    if x.minus < x.plus {
+        x.plus - x.minus
+    } else {
+        0
+    }
+}
+
+pub fn derivative(d: Derivative) -> Sums
+    requires { ⌜ DerivativeRanges d ⌝ }
+    ensures { λ r. ⌜ r ≡ derivativeShare d ⌝ }
+{
+    let kind = d.kind;
+    let cost = d.cost;
+    rest(other_charges::derivative_parts(
+        kind,
+        positive(cost),
+        d.notional,
+        d.months,
+        d.payments,
+        d.factor,
+    ))
+}
+
+pub fn asset(a: Asset) -> Sums
+    requires { ⌜ AssetRanges a ⌝ }
+    ensures { λ r. ⌜ r ≡ assetShare a ⌝ }
+{
+    rest(other_charges::asset_parts(a.amount, a.factor))
+}
+
+pub fn amount(item: Item, x: Signed) -> Sums
+    requires { ⌜ x .plus ≤ 100000000000 ⌝ }
+    ensures { λ r. ⌜ r ≡ amountShare item x ⌝ }
+{
+    match item {
+        Item::Claims => rest(other_charges::share_parts(x.plus, 20)),
+        Item::Lossc => rest(other_charges::share_parts(x.plus, 40)),
+        Item::Stated => rest(other_charges::share_parts(x.plus, 100)),
+        Item::Equity => capital(x, no_amount(), 0, 0),
+        Item::Aoci => capital(no_amount(), x, 0, 0),
+        Item::B => capital(no_amount(), no_amount(), x.plus, 0),
+        Item::C => capital(no_amount(), no_amount(), 0, x.plus),
+    }
+}
+
+// 1 for a loan without a score, else 0.
+pub fn unscored(score: Score) -> u64
+    ensures { λ r. ⌜ r ≡ unscoredCount score ⌝ }
+{
+    match score {
+        Score::Scored { number: _, age: _ } => 0,
+        Score::Unscored => 1,
+    }
+}
+
+fn factor(h: Header, score: Score, rates: &[u64; 66]) -> u64
+    requires { ⌜ now rates ≡ builtInRates ⌝ }
+    ensures { λ r. ⌜ r ≡ factorFor (termsWith h) score ⌝ }
+{
+    let aged = line_forms::on_aged_table(h);
+    loan_charge::credit::credit_factor(score, aged, h.loans, h.unscored, rates)
+}
+
+pub fn loan(h: Header, l: Loan, exps: &[u64; 1537], rates: &[u64; 66]) -> Sums
+    requires { ⌜ LoanRanges l × (now exps ≡ entries) × (now rates ≡ builtInRates) ⌝ }
+    ensures { λ r. ⌜ r ≡ loanShare (termsWith h) l ⌝ }
+{
+    let score = l.score;
+    let m = factor(h, score, rates);
+    let applies = l.supplement == 1;
+    let charge = loan_charge::charge::charge(
+        l.value,
+        l.balance,
+        l.balance,
+        l.amortization,
+        l.term,
+        applies,
+        m,
+        exps,
+    );
+    let total = charge.total;
+    let supplement = charge.supplement;
+    Sums {
+        loans: 1,
+        unscored: unscored(score),
+        other: 0,
+        total,
+        supplement,
+        rest: no_money(),
+        moved: no_money(),
+        equity: no_amount(),
+        aoci: no_amount(),
+        b: 0,
+        c: 0,
+    }
+}

@@ -1,0 +1,338 @@
+-- What a line holds and the line's bytes determine each other.
+use Prim.Native.Nat.{ℕ, zero, suc, _+_, _≤_, _<_}
+use native.Mathlib.Omega.{arith}
+use mathlib.Core.Path.{_≡_, refl, sym, _∙_, ap}
+use mathlib.Core.Bool.{Bool, true, false, not}
+use mathlib.Core.List.{List, [], _∷_, _++_}
+use mathlib.Core.Logic.{_⊎_, inl, inr}
+use borrow.Author.Tests.{ne-eqb}
+use lib.Dec.{eqb}
+use lib.ListN.{length, drop}
+use Rattle.loan_charge.specs.declared.Score.{Score}
+use Rattle.loan_charge.specs.declared.Score.the-variants.{Scored, Unscored}
+use Rattle.exact.specs.Text.{text}
+use Rattle.exact.specs.Choice.{pick}
+use Rattle.line_forms.specs.Bytes.{past, after, runOf, same, allWithin}
+use Rattle.line_forms.specs.Numerals.{isNumeral, limit}
+use Rattle.line_forms.specs.Forms.{number, Form, field, end, Values, AllWritable, formText}
+use Rattle.line_forms.specs.Parsing.{afterNumber, valuesAt, afterForm, hasForm, lettersAt}
+use Rattle.line_forms.specs.Contents.{headerForm, headerValues, scoredLoan, unscoredLoan, loanForm, loanValues, policyForm, policyValues, classPlace, derivativeForm, derivativeValues, kindPlace, assetForm, assetValues, plainForm, signedForm, amountForm, amountValues, bytesOf, SignFits, Written}
+use Rattle.line_forms.specs.Readings.{headerWith, scoredLoanWith, unscoredLoanWith, policyWith, classAt, derivativeWith, kindAt, assetWith, unsigned, headerHeld, loanHeld, policyHeld, derivativeHeld, assetHeld, plainHeld, signedHeld, amountHeld, contentOf}
+use Rattle.fixed_point.specs.declared.Signed.{Signed}
+use Rattle.line_forms.specs.declared.Header.{Header}
+use Rattle.line_forms.specs.declared.Loan.{Loan}
+use Rattle.line_forms.specs.declared.Class.{Class}
+use Rattle.line_forms.specs.declared.Class.the-variants.{Home, Multi}
+use Rattle.line_forms.specs.declared.Policy.{Policy}
+use Rattle.line_forms.specs.declared.Kind.{Kind}
+use Rattle.line_forms.specs.declared.Kind.the-variants.{Rate, Float, Fx, Equity, Metal, Other}
+use Rattle.line_forms.specs.declared.Derivative.{Derivative}
+use Rattle.line_forms.specs.declared.Asset.{Asset}
+use Rattle.line_forms.specs.declared.Item.{Item}
+use Rattle.line_forms.specs.declared.Item.the-variants.{Claims, Lossc, Stated, Equity as EquityItem, Aoci, B, C}
+use Rattle.line_forms.specs.declared.Content.{Content}
+use Rattle.line_forms.specs.declared.Content.the-variants.{Header as header, Loan as loan, Policy as policy, Derivative as derivative, Asset as asset, Amount as amount, NoForm}
+use Rattle.line_forms.proofs.Bytes.{rest-after, text-stands, run-exact}
+use Rattle.line_forms.proofs.FieldLaws.{among, spelled}
+use Rattle.line_forms.proofs.FormLaws.{stops, proper, form-of, form-has, form-past, form-step}
+
+-- From a line to what it holds: the line is the bytes of that.
+
+abbrev pub Right : List ℕ → Content → Type 0
+Right s c = (c ≡ NoForm) ⊎ (Written c × (s ≡ bytesOf c))
+
+pick-right : (s : List ℕ) (b : Bool) (x y : Content) → (b ≡ true → Right s x) → Right s y → Right s (pick b x y)
+pick-right s true x y f r = f refl
+pick-right s false x y f r = r
+
+-- the places of words
+class-place : (i : ℕ) → i < 2 → classPlace (classAt i) ≡ i
+class-place zero h = refl
+class-place (suc zero) h = refl
+class-place (suc (suc i)) h = absurd (omega arith)
+
+scores-place : (i : ℕ) → i < 2 → pick (eqb i 1) 1 0 ≡ i
+scores-place zero h = refl
+scores-place (suc zero) h = refl
+scores-place (suc (suc i)) h = absurd (omega arith)
+
+kind-place : (i : ℕ) → i < 6 → kindPlace (kindAt i) ≡ i
+kind-place zero h = refl
+kind-place (suc zero) h = refl
+kind-place (suc (suc zero)) h = refl
+kind-place (suc (suc (suc zero))) h = refl
+kind-place (suc (suc (suc (suc zero)))) h = refl
+kind-place (suc (suc (suc (suc (suc zero))))) h = refl
+kind-place (suc (suc (suc (suc (suc (suc i)))))) h = absurd (omega arith)
+
+-- from a form's values to what is made of them
+made : (s : List ℕ) (f : Form) (v u : Values f) → (s ≡ formText f v) × AllWritable f v → u ≡ v → AllWritable f u × (s ≡ formText f u)
+made s f v u k e = rw e (k .1, k .0)
+
+-- every form is proper
+proper-header : proper headerForm ≡ true
+unfolding stops spelled among same allWithin
+proper-header = refl
+
+proper-scored : proper scoredLoan ≡ true
+unfolding stops
+proper-scored = refl
+
+proper-unscored : proper unscoredLoan ≡ true
+unfolding stops
+proper-unscored = refl
+
+proper-policy : proper policyForm ≡ true
+unfolding stops spelled among same allWithin
+proper-policy = refl
+
+proper-derivative : proper derivativeForm ≡ true
+unfolding stops spelled among same allWithin
+proper-derivative = refl
+
+proper-asset : proper assetForm ≡ true
+unfolding stops
+proper-asset = refl
+
+proper-plain : (t : List ℕ) → proper (plainForm t) ≡ true
+unfolding stops
+proper-plain t = refl
+
+proper-signed : (t : List ℕ) → proper (signedForm t) ≡ true
+unfolding stops
+proper-signed t = refl
+
+-- what is read of a form that the line has
+held-right : (f : Form) (s : List ℕ) (make : Values f → Content) (other : Content) → proper f ≡ true → ((v : Values f) → (s ≡ formText f v) × AllWritable f v → Right s (make v)) → Right s other → Right s (pick (hasForm f s) (make (valuesAt f s 0)) other)
+held-right f s make other p g r =
+    pick-right s (hasForm f s) (make (valuesAt f s 0)) other (λ h. g (valuesAt f s 0) (form-of f s p h)) r
+
+header-right : (s : List ℕ) → Right s (headerHeld s)
+unfolding headerHeld bytesOf
+header-right s =
+    held-right headerForm s (λ v. header (headerWith v)) NoForm proper-header
+    (λ v k. inr (made s headerForm v (headerValues (headerWith v)) k (rw (scores-place (v .1 .1 .0) (k .1 .1 .1 .0)))))
+    (inl refl)
+
+loan-right : (s : List ℕ) → Right s (loanHeld s)
+unfolding loanHeld bytesOf
+loan-right s =
+    held-right scoredLoan s (λ v. loan (scoredLoanWith v))
+    (pick (hasForm unscoredLoan s) (loan (unscoredLoanWith (valuesAt unscoredLoan s 0))) NoForm)
+    proper-scored
+    (λ v k. inr (k .1, k .0))
+    (held-right unscoredLoan s (λ v. loan (unscoredLoanWith v)) NoForm proper-unscored (λ v k. inr (k .1, k .0)) (inl refl))
+
+policy-right : (s : List ℕ) → Right s (policyHeld s)
+unfolding policyHeld bytesOf
+policy-right s =
+    held-right policyForm s (λ v. policy (policyWith v)) NoForm proper-policy
+    (λ v k. inr (made s policyForm v (policyValues (policyWith v)) k (rw (class-place (v .0) (k .1 .0)))))
+    (inl refl)
+
+derivative-right : (s : List ℕ) → Right s (derivativeHeld s)
+unfolding derivativeHeld bytesOf
+derivative-right s =
+    held-right derivativeForm s (λ v. derivative (derivativeWith v)) NoForm proper-derivative
+    (λ v k. inr (made s derivativeForm v (derivativeValues (derivativeWith v)) k (rw (kind-place (v .0) (k .1 .0)))))
+    (inl refl)
+
+asset-right : (s : List ℕ) → Right s (assetHeld s)
+unfolding assetHeld bytesOf
+asset-right s =
+    held-right assetForm s (λ v. asset (assetWith v)) NoForm proper-asset (λ v k. inr (k .1, k .0)) (inl refl)
+
+plain-right : (i : Item) (t s : List ℕ) → ((n : ℕ) → (s ≡ formText (plainForm t) (n, tt)) × AllWritable (plainForm t) (n, tt) → Right s (amount (record { item = i; amount = unsigned n }))) → Right s (plainHeld i t s)
+unfolding plainHeld
+plain-right i t s f =
+    held-right (plainForm t) s (λ v. amount (record { item = i; amount = unsigned (v .0) })) NoForm (proper-plain t)
+    (λ v k. f (v .0) k)
+    (inl refl)
+
+signed-right : (i : Item) (t s : List ℕ) → ((n : Signed) → (s ≡ formText (signedForm t) (n, tt)) × AllWritable (signedForm t) (n, tt) → Right s (amount (record { item = i; amount = n }))) → Right s (signedHeld i t s)
+unfolding signedHeld
+signed-right i t s f =
+    held-right (signedForm t) s (λ v. amount (record { item = i; amount = v .0 })) NoForm (proper-signed t)
+    (λ v k. f (v .0) k)
+    (inl refl)
+
+-- the same through a choice of two, whichever is taken
+either-right : (s : List ℕ) (b : Bool) (x y : Content) → Right s x → Right s y → Right s (pick b x y)
+either-right s b x y p q = pick-right s b x y (λ h. p) q
+
+amount-right : (name s : List ℕ) → Right s (amountHeld name s)
+unfolding amountHeld bytesOf
+amount-right name s =
+    either-right s (same name (text "claims")) _ _ (plain-right Claims (text "(claims ") s (λ n k. inr ((k .1, refl), k .0)))
+    (either-right s (same name (text "lossc")) _ _ (plain-right Lossc (text "(lossc ") s (λ n k. inr ((k .1, refl), k .0)))
+    (either-right s (same name (text "stated")) _ _ (plain-right Stated (text "(stated ") s (λ n k. inr ((k .1, refl), k .0)))
+    (either-right s (same name (text "equity")) _ _ (signed-right EquityItem (text "(equity ") s (λ n k. inr ((k .1, tt), k .0)))
+    (either-right s (same name (text "aoci")) _ _ (signed-right Aoci (text "(aoci ") s (λ n k. inr ((k .1, tt), k .0)))
+    (either-right s (same name (text "b")) _ _ (plain-right B (text "(b ") s (λ n k. inr ((k .1, refl), k .0)))
+    (either-right s (same name (text "c")) _ _ (plain-right C (text "(c ") s (λ n k. inr ((k .1, refl), k .0)))
+    (inl refl)))))))
+
+pub content-right : (s : List ℕ) → Right s (contentOf s)
+unfolding contentOf
+content-right s =
+    either-right s (same (lettersAt s 1) (text "loan")) _ _ (loan-right s)
+    (either-right s (same (lettersAt s 1) (text "policy")) _ _ (policy-right s)
+    (either-right s (same (lettersAt s 1) (text "deriv")) _ _ (derivative-right s)
+    (either-right s (same (lettersAt s 1) (text "asset")) _ _ (asset-right s)
+    (either-right s (same (lettersAt s 1) (text "book")) _ _ (header-right s)
+    (amount-right (lettersAt s 1) s)))))
+
+-- From what is written to what the line holds.
+
+-- the name that a form's bytes begin with decides the reader
+named : (s name : List ℕ) (c : Content) → lettersAt s 1 ≡ name → pick (same name (text "loan")) (loanHeld s) (pick (same name (text "policy")) (policyHeld s) (pick (same name (text "deriv")) (derivativeHeld s) (pick (same name (text "asset")) (assetHeld s) (pick (same name (text "book")) (headerHeld s) (amountHeld name s))))) ≡ c → contentOf s ≡ c
+unfolding contentOf
+named s name c e h = rw e h
+
+-- a name stands after the opening bracket and before a space
+begins : (s w y : List ℕ) → allWithin 97 122 w ≡ true → s ≡ 40 ∷ (w ++ (32 ∷ y)) → lettersAt s 1 ≡ w
+unfolding runOf
+begins s w y h e = rw e (run-exact 97 122 w (32 ∷ y) h refl)
+
+-- what is read of a form's bytes
+held : (f : Form) (s : List ℕ) (make : Values f → Content) (other : Content) (v : Values f) → proper f ≡ true → s ≡ formText f v → AllWritable f v → pick (hasForm f s) (make (valuesAt f s 0)) other ≡ make v
+held f s make other v p e w = let k = form-has f s v p e w in rw (k .0) (ap make (k .1))
+
+aged-back : (h : Header) (b : Bool) → b ≡ h .aged → header (record { loans = h .loans; unscored = h .unscored; aged = eqb (pick b 1 0) 1; held = h .held }) ≡ header h
+aged-back h true e = ap (λ (b : Bool). header (record { loans = h .loans; unscored = h .unscored; aged = b; held = h .held })) e
+aged-back h false e = ap (λ (b : Bool). header (record { loans = h .loans; unscored = h .unscored; aged = b; held = h .held })) e
+
+header-written : (s : List ℕ) (h : Header) → Written (header h) → s ≡ bytesOf (header h) → contentOf s ≡ header h
+unfolding bytesOf headerHeld same allWithin
+header-written s h w e =
+    named s (text "book") (header h) (begins s (text "book") _ refl e)
+    (held headerForm s (λ v. header (headerWith v)) NoForm (headerValues h) proper-header e w ∙ aged-back h (h .aged) refl)
+
+class-back : (p : Policy) (q : Class) → q ≡ p .class → policy (record { class = classAt (classPlace q); premium = p .premium; term = p .term; completed = p .completed }) ≡ policy p
+class-back p Home e = ap (λ (q : Class). policy (record { class = q; premium = p .premium; term = p .term; completed = p .completed })) e
+class-back p Multi e = ap (λ (q : Class). policy (record { class = q; premium = p .premium; term = p .term; completed = p .completed })) e
+
+policy-written : (s : List ℕ) (p : Policy) → Written (policy p) → s ≡ bytesOf (policy p) → contentOf s ≡ policy p
+unfolding bytesOf policyHeld same allWithin
+policy-written s p w e =
+    named s (text "policy") (policy p) (begins s (text "policy") _ refl e)
+    (held policyForm s (λ v. policy (policyWith v)) NoForm (policyValues p) proper-policy e w ∙ class-back p (p .class) refl)
+
+kind-back : (q : Kind) → kindAt (kindPlace q) ≡ q
+kind-back Rate = refl
+kind-back Float = refl
+kind-back Fx = refl
+kind-back Equity = refl
+kind-back Metal = refl
+kind-back Other = refl
+
+derivative-written : (s : List ℕ) (d : Derivative) → Written (derivative d) → s ≡ bytesOf (derivative d) → contentOf s ≡ derivative d
+unfolding bytesOf derivativeHeld same allWithin
+derivative-written s d w e =
+    named s (text "deriv") (derivative d) (begins s (text "deriv") _ refl e)
+    (held derivativeForm s (λ v. derivative (derivativeWith v)) NoForm (derivativeValues d) proper-derivative e w ∙
+    rw (kind-back (d .kind)))
+
+asset-written : (s : List ℕ) (a : Asset) → Written (asset a) → s ≡ bytesOf (asset a) → contentOf s ≡ asset a
+unfolding bytesOf assetHeld same allWithin
+asset-written s a w e =
+    named s (text "asset") (asset a) (begins s (text "asset") _ refl e)
+    (held assetForm s (λ v. asset (assetWith v)) NoForm (assetValues a) proper-asset e w)
+
+plain-written : (i : Item) (t s : List ℕ) (n : ℕ) → n < limit → s ≡ formText (plainForm t) (n, tt) → plainHeld i t s ≡ amount (record { item = i; amount = unsigned n })
+unfolding plainHeld
+plain-written i t s n w e =
+    held (plainForm t) s (λ v. amount (record { item = i; amount = unsigned (v .0) })) NoForm (n, tt) (proper-plain t) e (w, tt)
+
+signed-written : (i : Item) (t s : List ℕ) (n : Signed) → AllWritable (signedForm t) (n, tt) → s ≡ formText (signedForm t) (n, tt) → signedHeld i t s ≡ amount (record { item = i; amount = n })
+unfolding signedHeld
+signed-written i t s n w e =
+    held (signedForm t) s (λ v. amount (record { item = i; amount = v .0 })) NoForm (n, tt) (proper-signed t) e w
+
+-- an amount without a sign is its part above 0
+unsigned-back : (i : Item) (n : Signed) → n .minus ≡ 0 → amount (record { item = i; amount = unsigned (n .plus) }) ≡ amount (record { item = i; amount = n })
+unsigned-back i n e = ap (λ (m : ℕ). amount (record { item = i; amount = record { plus = n .plus; minus = m } })) (sym e)
+
+amount-written : (s : List ℕ) (i : Item) (n : Signed) → AllWritable (amountForm i) (amountValues i n) → SignFits i n → s ≡ formText (amountForm i) (amountValues i n) → contentOf s ≡ amount (record { item = i; amount = n })
+unfolding amountHeld same allWithin
+amount-written s Claims n w z e =
+    named s (text "claims") _ (begins s (text "claims") _ refl e) (plain-written Claims (text "(claims ") s (n .plus) (w .0) e ∙ unsigned-back Claims n z)
+amount-written s Lossc n w z e =
+    named s (text "lossc") _ (begins s (text "lossc") _ refl e) (plain-written Lossc (text "(lossc ") s (n .plus) (w .0) e ∙ unsigned-back Lossc n z)
+amount-written s Stated n w z e =
+    named s (text "stated") _ (begins s (text "stated") _ refl e) (plain-written Stated (text "(stated ") s (n .plus) (w .0) e ∙ unsigned-back Stated n z)
+amount-written s EquityItem n w z e =
+    named s (text "equity") _ (begins s (text "equity") _ refl e) (signed-written EquityItem (text "(equity ") s n w e)
+amount-written s Aoci n w z e =
+    named s (text "aoci") _ (begins s (text "aoci") _ refl e) (signed-written Aoci (text "(aoci ") s n w e)
+amount-written s B n w z e =
+    named s (text "b") _ (begins s (text "b") _ refl e) (plain-written B (text "(b ") s (n .plus) (w .0) e ∙ unsigned-back B n z)
+amount-written s C n w z e =
+    named s (text "c") _ (begins s (text "c") _ refl e) (plain-written C (text "(c ") s (n .plus) (w .0) e ∙ unsigned-back C n z)
+
+-- Loans. A line with (score none) has not the other form: where a number would begin, none stands.
+abbrev withScore : Loan → Score → Loan
+withScore l q = record { balance = l .balance; value = l .value; amortization = l .amortization; term = l .term; score = q; supplement = l .supplement }
+
+no-digits : (s : List ℕ) (at : ℕ) (r : List ℕ) → drop at s ≡ r → runOf 48 57 r ≡ [] → afterNumber s at ≡ past s
+unfolding afterNumber isNumeral allWithin
+no-digits s at r e d = rw (e, d)
+
+-- the forms of an unscored loan from its second field on, and of a scored one from its score on
+abbrev unscored5 : Form
+unscored5 = field (text ") (score none) (sup ") number (end (text "))"))
+
+abbrev unscored4 : Form
+unscored4 = field (text ") (term ") number unscored5
+
+abbrev unscored3 : Form
+unscored3 = field (text ") (amort ") number unscored4
+
+abbrev unscored2 : Form
+unscored2 = field (text ") (val ") number unscored3
+
+abbrev scored6 : Form
+scored6 = field (text " ") number (field (text ") (sup ") number (end (text "))")))
+
+no-score : (s : List ℕ) (at n : ℕ) → at ≤ length s → drop at s ≡ formText unscored5 (n, tt) → length s < afterForm scored6 s (afterNumber s (after s at (text ") (score ")))
+unfolding runOf stops
+no-score s at n l e =
+    let x : List ℕ = text "none) (sup " ++ formText (field [] number (end (text "))"))) (n, tt) in
+    let a : after s at (text ") (score ") ≡ at + 9 = text-stands s at (text ") (score ") x l e in
+    let b : drop (at + 9) s ≡ x = rest-after s at (text ") (score ") x l e .1 in
+    rw (a, no-digits s (at + 9) x b refl) (form-past scored6 s (past s) refl (omega arith))
+
+unscored-only : (s : List ℕ) (l : Loan) → AllWritable unscoredLoan (loanValues Unscored l) → s ≡ formText unscoredLoan (loanValues Unscored l) → hasForm scoredLoan s ≡ false
+unfolding stops
+unscored-only s l w e =
+    let v = loanValues Unscored l in
+    let a = form-step (text "(loan (bal ") number unscored2 s 0 v refl (omega arith) e w in
+    let b = form-step (text ") (val ") number unscored3 s (a .0) (v .1) refl (a .2) (a .3) (w .1) in
+    let c = form-step (text ") (amort ") number unscored4 s (b .0) (v .1 .1) refl (b .2) (b .3) (w .1 .1) in
+    let d = form-step (text ") (term ") number unscored5 s (c .0) (v .1 .1 .1) refl (c .2) (c .3) (w .1 .1 .1) in
+    rw (a .1, b .1, c .1, d .1)
+    (ne-eqb (afterForm scored6 s (afterNumber s (after s (d .0) (text ") (score ")))) (length s)
+    (λ h. omega (arith, no-score s (d .0) (l .supplement) (d .2) (d .3))))
+
+loan-written : (s : List ℕ) (q : Score) (l : Loan) → l .score ≡ q → AllWritable (loanForm q) (loanValues q l) → s ≡ formText (loanForm q) (loanValues q l) → contentOf s ≡ loan l
+unfolding loanHeld same allWithin
+loan-written s (Scored n age) l z w e =
+    named s (text "loan") (loan l) (begins s (text "loan") _ refl e)
+    (held scoredLoan s (λ v. loan (scoredLoanWith v)) (pick (hasForm unscoredLoan s) (loan (unscoredLoanWith (valuesAt unscoredLoan s 0))) NoForm) (loanValues (Scored n age) l) proper-scored e w ∙
+    ap (λ (x : Score). loan (withScore l x)) (sym z))
+loan-written s Unscored l z w e =
+    named s (text "loan") (loan l) (begins s (text "loan") _ refl e)
+    (rw (unscored-only s l w e)
+    (held unscoredLoan s (λ v. loan (unscoredLoanWith v)) NoForm (loanValues Unscored l) proper-unscored e w ∙
+    ap (λ (x : Score). loan (withScore l x)) (sym z)))
+
+-- The bytes of what a line can hold are read as that.
+pub content-written : (s : List ℕ) (c : Content) → Written c → s ≡ bytesOf c → contentOf s ≡ c
+unfolding bytesOf
+content-written s (header h) w e = header-written s h w e
+content-written s (loan l) w e = loan-written s (l .score) l refl w e
+content-written s (policy p) w e = policy-written s p w e
+content-written s (derivative d) w e = derivative-written s d w e
+content-written s (asset a) w e = asset-written s a w e
+content-written s (amount a) w e = amount-written s (a .item) (a .amount) (w .0) (w .1) e
+content-written s NoForm w e = absurd w

@@ -1,0 +1,11 @@
+pub mod AnswerLaws
+pub mod Bounds
+pub mod Bytes
+pub mod ContentLaws
+pub mod FieldLaws
+pub mod FormLaws
+pub mod HeaderLaws
+pub mod LineLaws
+pub mod Numerals
+pub mod Positions
+pub mod Sizes

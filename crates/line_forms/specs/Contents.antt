@@ -1,0 +1,250 @@
+-- 01, "A book, line by line": each form as it is shown there, its data, and its ranges with both ends.
+use Prim.Native.Nat.{ℕ}
+use mathlib.Core.Bool.{Bool, true, false, _&&_}
+use mathlib.Core.List.{List, [], _∷_}
+use mathlib.Core.Path.{_≡_}
+use Rattle.loan_charge.specs.declared.Score.{Score}
+use Rattle.loan_charge.specs.declared.Score.the-variants.{Scored, Unscored}
+use Rattle.exact.specs.Text.{text}
+use Rattle.exact.specs.Choice.{pick}
+use Rattle.line_forms.specs.Bytes.{within, same}
+use Rattle.line_forms.specs.Forms.{Form, field, end, number, signed, word, Values, AllWritable, formText}
+use Rattle.fixed_point.specs.declared.Signed.{Signed}
+use Rattle.line_forms.specs.declared.Header.{Header}
+use Rattle.line_forms.specs.declared.Loan.{Loan}
+use Rattle.line_forms.specs.declared.Class.{Class}
+use Rattle.line_forms.specs.declared.Class.the-variants.{Home, Multi}
+use Rattle.line_forms.specs.declared.Policy.{Policy}
+use Rattle.line_forms.specs.declared.Kind.{Kind}
+use Rattle.line_forms.specs.declared.Kind.the-variants.{Rate, Float, Fx, Equity, Metal, Other}
+use Rattle.line_forms.specs.declared.Derivative.{Derivative}
+use Rattle.line_forms.specs.declared.Asset.{Asset}
+use Rattle.line_forms.specs.declared.Item.{Item}
+use Rattle.line_forms.specs.declared.Item.the-variants.{Claims, Lossc, Stated, Equity as EquityItem, Aoci, B, C}
+use Rattle.line_forms.specs.declared.Amount.{Amount}
+use Rattle.line_forms.specs.declared.Content.{Content}
+use Rattle.line_forms.specs.declared.Content.the-variants.{Header as header, Loan as loan, Policy as policy, Derivative as derivative, Asset as asset, Amount as amount, NoForm}
+
+-- The header.
+
+-- (book (loans D) (unscored D) (scores fresh|aged) (held D))
+abbrev pub scores : List (List ℕ)
+scores = text "fresh" ∷ text "aged" ∷ []
+
+abbrev pub headerForm : Form
+headerForm =
+    field (text "(book (loans ") number
+    (field (text ") (unscored ") number
+    (field (text ") (scores ") (word scores)
+    (field (text ") (held ") number
+    (end (text "))")))))
+
+abbrev pub headerValues : Header → Values headerForm
+headerValues h = (h .loans, (h .unscored, (pick (h .aged) 1 0, (h .held, tt))))
+
+-- unscored is bounded only by refusal 4
+unfoldable pub headerInRange : Header → Bool
+headerInRange h = within 0 1000000 (h .loans) && within 0 10000000000000 (h .held)
+
+-- Whether the aged table serves; in a fresh book the first column serves at every age (01, "The loan charge").
+abbrev pub onAgedTable : Header → Bool
+onAgedTable h = h .aged
+
+-- Loans.
+
+-- (loan (bal D) (val D) (amort D) (term D) (score D D) (sup D))
+abbrev pub scoredLoan : Form
+scoredLoan =
+    field (text "(loan (bal ") number
+    (field (text ") (val ") number
+    (field (text ") (amort ") number
+    (field (text ") (term ") number
+    (field (text ") (score ") number
+    (field (text " ") number
+    (field (text ") (sup ") number
+    (end (text "))"))))))))
+
+-- the same with (score none)
+abbrev pub unscoredLoan : Form
+unscoredLoan =
+    field (text "(loan (bal ") number
+    (field (text ") (val ") number
+    (field (text ") (amort ") number
+    (field (text ") (term ") number
+    (field (text ") (score none) (sup ") number
+    (end (text "))"))))))
+
+abbrev pub loanForm : Score → Form
+loanForm (Scored n age) = scoredLoan
+loanForm Unscored = unscoredLoan
+
+abbrev pub loanValues : (q : Score) → Loan → Values (loanForm q)
+loanValues (Scored n age) l =
+    (l .balance, (l .value, (l .amortization, (l .term, (n, (age, (l .supplement, tt)))))))
+loanValues Unscored l = (l .balance, (l .value, (l .amortization, (l .term, (l .supplement, tt)))))
+
+unfoldable pub scoreInRange : Score → Bool
+scoreInRange (Scored n age) = within 300 900 n && within 0 600 age
+scoreInRange Unscored = true
+
+unfoldable pub loanInRange : Loan → Bool
+loanInRange l =
+    within 1 200000000 (l .balance) && within 1 10000000000 (l .value) && within 1 480 (l .amortization) &&
+    within 1 480 (l .term) && scoreInRange (l .score) && within 0 1 (l .supplement)
+
+-- Policies.
+
+-- (policy (class home|multi) (prem D) (term D) (done D))
+abbrev pub classes : List (List ℕ)
+classes = text "home" ∷ text "multi" ∷ []
+
+abbrev pub classPlace : Class → ℕ
+classPlace Home = 0
+classPlace Multi = 1
+
+abbrev pub policyForm : Form
+policyForm =
+    field (text "(policy (class ") (word classes)
+    (field (text ") (prem ") number
+    (field (text ") (term ") number
+    (field (text ") (done ") number
+    (end (text "))")))))
+
+abbrev pub policyValues : Policy → Values policyForm
+policyValues p = (classPlace (p .class), (p .premium, (p .term, (p .completed, tt))))
+
+unfoldable pub policyInRange : Policy → Bool
+policyInRange p = within 0 100000000 (p .premium) && within 1 480 (p .term) && within 0 40 (p .completed)
+
+-- Money without a range of its own is at most 100,000,000,000 either way.
+unfoldable pub moneyInRange : Signed → Bool
+moneyInRange n = within 0 100000000000 (n .plus) && within 0 100000000000 (n .minus)
+
+-- Derivatives.
+
+-- (deriv (kind rate|float|fx|equity|metal|other) (cost S) (notional D) (months D) (pays D) (factor D))
+abbrev pub kinds : List (List ℕ)
+kinds = text "rate" ∷ text "float" ∷ text "fx" ∷ text "equity" ∷ text "metal" ∷ text "other" ∷ []
+
+abbrev pub kindPlace : Kind → ℕ
+kindPlace Rate = 0
+kindPlace Float = 1
+kindPlace Fx = 2
+kindPlace Equity = 3
+kindPlace Metal = 4
+kindPlace Other = 5
+
+abbrev pub derivativeForm : Form
+derivativeForm =
+    field (text "(deriv (kind ") (word kinds)
+    (field (text ") (cost ") signed
+    (field (text ") (notional ") number
+    (field (text ") (months ") number
+    (field (text ") (pays ") number
+    (field (text ") (factor ") number
+    (end (text "))")))))))
+
+abbrev pub derivativeValues : Derivative → Values derivativeForm
+derivativeValues d =
+    (kindPlace (d .kind), (d .cost, (d .notional, (d .months, (d .payments, (d .factor, tt))))))
+
+unfoldable pub derivativeInRange : Derivative → Bool
+derivativeInRange d =
+    moneyInRange (d .cost) && within 0 100000000000 (d .notional) && within 0 600 (d .months) &&
+    within 1 100 (d .payments) && within 0 10000 (d .factor)
+
+-- Assets.
+
+-- (asset (amount D) (factor D))
+abbrev pub assetForm : Form
+assetForm = field (text "(asset (amount ") number (field (text ") (factor ") number (end (text "))")))
+
+abbrev pub assetValues : Asset → Values assetForm
+assetValues a = (a .amount, (a .factor, tt))
+
+unfoldable pub assetInRange : Asset → Bool
+assetInRange a = within 0 100000000000 (a .amount) && within 0 10000 (a .factor)
+
+-- Amounts.
+
+-- a text, one number and a closing bracket
+abbrev pub plainForm : List ℕ → Form
+plainForm t = field t number (end (text ")"))
+
+abbrev pub signedForm : List ℕ → Form
+signedForm t = field t signed (end (text ")"))
+
+-- (claims D), (lossc D), (stated D), (equity S), (aoci S), (b D), (c D)
+abbrev pub amountForm : Item → Form
+amountForm Claims = plainForm (text "(claims ")
+amountForm Lossc = plainForm (text "(lossc ")
+amountForm Stated = plainForm (text "(stated ")
+amountForm EquityItem = signedForm (text "(equity ")
+amountForm Aoci = signedForm (text "(aoci ")
+amountForm B = plainForm (text "(b ")
+amountForm C = plainForm (text "(c ")
+
+abbrev pub amountValues : (i : Item) → Signed → Values (amountForm i)
+amountValues Claims n = (n .plus, tt)
+amountValues Lossc n = (n .plus, tt)
+amountValues Stated n = (n .plus, tt)
+amountValues EquityItem n = (n, tt)
+amountValues Aoci n = (n, tt)
+amountValues B n = (n .plus, tt)
+amountValues C n = (n .plus, tt)
+
+unfoldable pub amountInRange : Amount → Bool
+amountInRange a = moneyInRange (a .amount)
+
+-- What a line holds, and how that is written.
+
+abbrev pub formFor : Content → Form
+formFor (header h) = headerForm
+formFor (loan l) = loanForm (l .score)
+formFor (policy p) = policyForm
+formFor (derivative d) = derivativeForm
+formFor (asset a) = assetForm
+formFor (amount a) = amountForm (a .item)
+formFor NoForm = end []
+
+abbrev pub valuesFor : (c : Content) → Values (formFor c)
+valuesFor (header h) = headerValues h
+valuesFor (loan l) = loanValues (l .score) l
+valuesFor (policy p) = policyValues p
+valuesFor (derivative d) = derivativeValues d
+valuesFor (asset a) = assetValues a
+valuesFor (amount a) = amountValues (a .item) (a .amount)
+valuesFor NoForm = tt
+
+-- the bytes of what a line holds
+unfoldable pub bytesOf : Content → List ℕ
+bytesOf c = formText (formFor c) (valuesFor c)
+
+-- a sign only where the form has an S
+abbrev pub SignFits : (i : Item) → Signed → Type 0
+SignFits Claims n = n .minus ≡ 0
+SignFits Lossc n = n .minus ≡ 0
+SignFits Stated n = n .minus ≡ 0
+SignFits EquityItem n = Unit {0}
+SignFits Aoci n = Unit {0}
+SignFits B n = n .minus ≡ 0
+SignFits C n = n .minus ≡ 0
+
+-- each number is one that its D or S can write
+abbrev pub Written : Content → Type 0
+Written (header h) = AllWritable headerForm (headerValues h)
+Written (loan l) = AllWritable (loanForm (l .score)) (loanValues (l .score) l)
+Written (policy p) = AllWritable policyForm (policyValues p)
+Written (derivative d) = AllWritable derivativeForm (derivativeValues d)
+Written (asset a) = AllWritable assetForm (assetValues a)
+Written (amount a) = AllWritable (amountForm (a .item)) (amountValues (a .item) (a .amount)) × SignFits (a .item) (a .amount)
+Written NoForm = ⊥
+
+unfoldable pub inRange : Content → Bool
+inRange (header h) = headerInRange h
+inRange (loan l) = loanInRange l
+inRange (policy p) = policyInRange p
+inRange (derivative d) = derivativeInRange d
+inRange (asset a) = assetInRange a
+inRange (amount a) = amountInRange a
+inRange NoForm = false

@@ -1,0 +1,48 @@
+-- A form of a line: texts with fields between them, and how its values are written.
+use Prim.Native.Nat.{ℕ, _<_}
+use mathlib.Core.List.{List, [], _++_}
+use mathlib.Core.Logic.{_⊎_}
+use mathlib.Core.Path.{_≡_}
+use lib.ListN.{length, getD}
+use Rattle.line_forms.specs.Numerals.{decimal, limit, signedText}
+use Rattle.fixed_point.specs.declared.Signed.{Signed}
+
+-- a D, an S, or one of the words that upright bars separate
+pub data Field : Type 0 where
+  number : Field
+  signed : Field
+  word : List (List ℕ) → Field
+
+-- a text and then a field, or the last text
+pub data Form : Type 0 where
+  field : List ℕ → Field → Form → Form
+  end : List ℕ → Form
+
+-- a field's value; a word's is its place among the choices, 0 first
+abbrev pub Value : Field → Type 0
+Value number = ℕ
+Value signed = Signed
+Value (word choices) = ℕ
+
+abbrev pub Values : Form → Type 0
+Values (field t k f) = Value k × Values f
+Values (end t) = Unit {0}
+
+-- values that the field can write
+abbrev pub Writable : (k : Field) → Value k → Type 0
+Writable number n = n < limit
+Writable signed n = (n .plus < limit) × (n .minus < limit) × ((n .plus ≡ 0) ⊎ (n .minus ≡ 0))
+Writable (word choices) i = i < length choices
+
+abbrev pub fieldText : (k : Field) → Value k → List ℕ
+fieldText number n = decimal n
+fieldText signed n = signedText n
+fieldText (word choices) i = getD choices i []
+
+abbrev pub AllWritable : (f : Form) → Values f → Type 0
+AllWritable (field t k f) v = Writable k (v .0) × AllWritable f (v .1)
+AllWritable (end t) v = Unit {0}
+
+abbrev pub formText : (f : Form) → Values f → List ℕ
+formText (field t k f) v = t ++ (fieldText k (v .0) ++ formText f (v .1))
+formText (end t) v = t

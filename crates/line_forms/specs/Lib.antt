@@ -1,0 +1,7 @@
+pub mod Bytes
+pub mod Claims
+pub mod Contents
+pub mod Forms
+pub mod Numerals
+pub mod Parsing
+pub mod Readings

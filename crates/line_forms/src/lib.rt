@@ -1,0 +1,224 @@
+// From the bytes of a line to what it holds, and to the refusals that need only the line (01, "A book, line by line").
+mod fields;
+mod forms;
+mod ranges;
+
+ghost use mathlib.Core.Path.{_≡_};
+ghost use Rattle.line_forms.specs.Contents.{onAgedTable};
+ghost use Rattle.line_forms.specs.Readings.{lineOf, lineFor, headerOf, headerFor};
+use fixed_point::Signed;
+use loan_charge::Score;
+
+// A longer line is refused as 1.
+const LONGEST: usize = 240;
+
+// A part of a line read as a D.
+pub enum Number {
+    Value(u64),
+    Missing,
+}
+
+// A field's value and the position after it; past the end of the line where the field does not stand there.
+pub struct Found {
+    pub value: u64,
+    pub next: usize,
+}
+
+pub struct FoundSigned {
+    pub amount: Signed,
+    pub next: usize,
+}
+
+// The counts of loans and of loans without a score, whether the aged table serves, and the liabilities held for home loans in cents.
+pub struct Header {
+    pub loans: u64,
+    pub unscored: u64,
+    pub aged: bool,
+    pub held: u64,
+}
+
+// Balance and property value in cents, remaining amortization and insurance term in months; supplement is 1 where it applies, else 0.
+pub struct Loan {
+    pub balance: u64,
+    pub value: u64,
+    pub amortization: u64,
+    pub term: u64,
+    pub score: Score,
+    pub supplement: u64,
+}
+
+pub enum Class {
+    Home,
+    Multi,
+}
+
+// Premium in cents, original term in months, completed years.
+pub struct Policy {
+    pub class: Class,
+    pub premium: u64,
+    pub term: u64,
+    pub completed: u64,
+}
+
+// Float is a single-currency floating/floating swap; fx includes gold.
+pub enum Kind {
+    Rate,
+    Float,
+    Fx,
+    Equity,
+    Metal,
+    Other,
+}
+
+// Replacement cost and notional in cents, months to run, remaining payments, the counterparty's factor in ten-thousandths.
+pub struct Derivative {
+    pub kind: Kind,
+    pub cost: Signed,
+    pub notional: u64,
+    pub months: u64,
+    pub payments: u64,
+    pub factor: u64,
+}
+
+// Amount in cents, factor in ten-thousandths.
+pub struct Asset {
+    pub amount: u64,
+    pub factor: u64,
+}
+
+// Multi-unit incurred claims and loss components, a stated charge, and the parts of capital.
+pub enum Item {
+    Claims,
+    Lossc,
+    Stated,
+    Equity,
+    Aoci,
+    B,
+    C,
+}
+
+// An amount in cents; only equity and aoci may be negative.
+pub struct Amount {
+    pub item: Item,
+    pub amount: Signed,
+}
+
+// What a line holds, whatever the ranges of its numbers.
+pub enum Content {
+    Header(Header),
+    Loan(Loan),
+    Policy(Policy),
+    Derivative(Derivative),
+    Asset(Asset),
+    Amount(Amount),
+    NoForm,
+}
+
+// The answer for a line after the header. A refusal has the number of 01, "Who can be turned down".
+pub enum Line {
+    Loan(Loan),
+    Policy(Policy),
+    Derivative(Derivative),
+    Asset(Asset),
+    Amount(Amount),
+    Refusal(u64),
+}
+
+// The answer for a header line.
+pub enum HeaderLine {
+    Header(Header),
+    Refusal(u64),
+}
+
+// Whether the aged table serves for a book's scores.
+pub fn on_aged_table(h: Header) -> bool
+    ensures { λ r. ⌜ r ≡ onAgedTable h ⌝ }
+{
+    h.aged
+}
+
+fn line_for(c: Content) -> Line
+    ensures { λ r. ⌜ r ≡ lineFor c ⌝ }
+{
+    match c {
+        Content::NoForm => Line::Refusal(2),
+        Content::Header(_) => Line::Refusal(7),
+        Content::Loan(l) => {
+            if ranges::loan(l) {
+                Line::Loan(l)
+            } else {
+                Line::Refusal(3)
+            }
+        }
+        Content::Policy(p) => {
+            if ranges::policy(p) {
+                Line::Policy(p)
+            } else {
+                Line::Refusal(3)
+            }
+        }
+        Content::Derivative(d) => {
+            if ranges::derivative(d) {
+                Line::Derivative(d)
+            } else {
+                Line::Refusal(3)
+            }
+        }
+        Content::Asset(a) => {
+            if ranges::asset(a) {
+                Line::Asset(a)
+            } else {
+                Line::Refusal(3)
+            }
+        }
+        Content::Amount(a) => {
+            if ranges::amount(a) {
+                Line::Amount(a)
+            } else {
+                Line::Refusal(3)
+            }
+        }
+    }
+}
+
+// A line after the header.
+pub fn read_line(line: &[u8]) -> Line
+    ensures { λ r. ⌜ r ≡ lineOf (now (line .entry)) ⌝ }
+{
+    if LONGEST < line.len() {
+        return Line::Refusal(1);
+    }
+    line_for(forms::content(line))
+}
+
+fn header_for(c: Content) -> HeaderLine
+    ensures { λ r. ⌜ r ≡ headerFor c ⌝ }
+{
+    match c {
+        Content::NoForm => HeaderLine::Refusal(2),
+        Content::Header(h) => {
+            if !ranges::header(h) {
+                return HeaderLine::Refusal(3);
+            }
+            if h.loans < h.unscored {
+                return HeaderLine::Refusal(4);
+            }
+            HeaderLine::Header(h)
+        }
+        Content::Loan(_) => HeaderLine::Refusal(7),
+        Content::Policy(_) => HeaderLine::Refusal(7),
+        Content::Derivative(_) => HeaderLine::Refusal(7),
+        Content::Asset(_) => HeaderLine::Refusal(7),
+        Content::Amount(_) => HeaderLine::Refusal(7),
+    }
+}
+
+// The line that opens a book.
+pub fn read_header(line: &[u8]) -> HeaderLine
+    ensures { λ r. ⌜ r ≡ headerOf (now (line .entry)) ⌝ }
+{
+    if LONGEST < line.len() {
+        return HeaderLine::Refusal(1);
+    }
+    header_for(forms::content(line))
+}

@@ -1,0 +1,4 @@
+pub mod Decimal
+pub mod Onto
+pub mod Numbers
+pub mod Lines

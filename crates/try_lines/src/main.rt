@@ -1,0 +1,353 @@
+// Tries the line forms on the cases of standard input, `length feeding opening kind a b c d e f g line`, and prints
+// each case whose answer is another. The two refusals are 0 where the line is accepted; the kind and the seven numbers
+// are then what it holds, else 0. The line is as many bytes as its length says, whatever they are.
+ghost use Prim.Native.Nat.{_+_, _<_, _≤_};
+ghost use lib.ListN.{length};
+use cases::Number;
+use cases::Tally;
+use cases::Tried;
+use line_forms::Amount;
+use line_forms::Asset;
+use line_forms::Class;
+use line_forms::Derivative;
+use line_forms::Header;
+use line_forms::HeaderLine;
+use line_forms::Item;
+use line_forms::Kind;
+use line_forms::Line;
+use line_forms::Loan;
+use line_forms::Policy;
+use loan_charge::Score;
+
+// The tally so far, and whether the input goes on.
+struct Block {
+    more: bool,
+    tally: Tally,
+}
+
+// An answer as numbers.
+struct Answer {
+    refusal: u64,
+    kind: u64,
+    a: u64,
+    b: u64,
+    c: u64,
+    d: u64,
+    e: u64,
+    f: u64,
+    g: u64,
+}
+
+// What an accepted line of a case holds, and the position after it.
+struct Values {
+    answer: Answer,
+    next: usize,
+}
+
+// A case without its line.
+struct Case {
+    length: usize,
+    feeding: u64,
+    opening: u64,
+    values: Answer,
+    next: usize,
+}
+
+fn refused(refusal: u64) -> Answer {
+    Answer {
+        refusal: refusal,
+        kind: 0,
+        a: 0,
+        b: 0,
+        c: 0,
+        d: 0,
+        e: 0,
+        f: 0,
+        g: 0,
+    }
+}
+
+fn loan_answer(l: Loan) -> Answer {
+    let mut r = refused(0);
+    r.a = l.balance;
+    r.b = l.value;
+    r.c = l.amortization;
+    r.d = l.term;
+    r.g = l.supplement;
+    let score = l.score;
+    match score {
+        Score::Scored { number, age } => {
+            r.kind = 1;
+            r.e = number;
+            r.f = age;
+        }
+        Score::Unscored => {
+            r.kind = 2;
+        }
+    }
+    r
+}
+
+fn class_number(class: Class) -> u64 {
+    match class {
+        Class::Home => 0,
+        Class::Multi => 1,
+    }
+}
+
+fn kind_number(kind: Kind) -> u64 {
+    match kind {
+        Kind::Rate => 0,
+        Kind::Float => 1,
+        Kind::Fx => 2,
+        Kind::Equity => 3,
+        Kind::Metal => 4,
+        Kind::Other => 5,
+    }
+}
+
+fn item_number(item: Item) -> u64 {
+    match item {
+        Item::Claims => 0,
+        Item::Lossc => 1,
+        Item::Stated => 2,
+        Item::Equity => 3,
+        Item::Aoci => 4,
+        Item::B => 5,
+        Item::C => 6,
+    }
+}
+
+fn policy_answer(p: Policy) -> Answer {
+    let class = p.class;
+    Answer {
+        refusal: 0,
+        kind: 3,
+        a: class_number(class),
+        b: p.premium,
+        c: p.term,
+        d: p.completed,
+        e: 0,
+        f: 0,
+        g: 0,
+    }
+}
+
+fn derivative_answer(d: Derivative) -> Answer {
+    let kind = d.kind;
+    Answer {
+        refusal: 0,
+        kind: 4,
+        a: kind_number(kind),
+        b: d.cost.plus,
+        c: d.cost.minus,
+        d: d.notional,
+        e: d.months,
+        f: d.payments,
+        g: d.factor,
+    }
+}
+
+fn asset_answer(x: Asset) -> Answer {
+    Answer {
+        refusal: 0,
+        kind: 5,
+        a: x.amount,
+        b: x.factor,
+        c: 0,
+        d: 0,
+        e: 0,
+        f: 0,
+        g: 0,
+    }
+}
+
+fn amount_answer(x: Amount) -> Answer {
+    let item = x.item;
+    Answer {
+        refusal: 0,
+        kind: 6,
+        a: item_number(item),
+        b: x.amount.plus,
+        c: x.amount.minus,
+        d: 0,
+        e: 0,
+        f: 0,
+        g: 0,
+    }
+}
+
+fn line_answer(l: Line) -> Answer {
+    match l {
+        Line::Loan(x) => loan_answer(x),
+        Line::Policy(x) => policy_answer(x),
+        Line::Derivative(x) => derivative_answer(x),
+        Line::Asset(x) => asset_answer(x),
+        Line::Amount(x) => amount_answer(x),
+        Line::Refusal(n) => refused(n),
+    }
+}
+
+fn aged_number(aged: bool) -> u64 {
+    if aged { 1 } else { 0 }
+}
+
+fn opened(h: Header) -> Answer {
+    Answer {
+        refusal: 0,
+        kind: 7,
+        a: h.loans,
+        b: h.unscored,
+        c: aged_number(h.aged),
+        d: h.held,
+        e: 0,
+        f: 0,
+        g: 0,
+    }
+}
+
+fn header_answer(h: HeaderLine) -> Answer {
+    match h {
+        HeaderLine::Header(x) => opened(x),
+        HeaderLine::Refusal(n) => refused(n),
+    }
+}
+
+fn is_same(x: Answer, y: Answer) -> bool {
+    let first = (x.refusal == y.refusal) & (x.kind == y.kind) & (x.a == y.a) & (x.b == y.b);
+    let second = (x.c == y.c) & (x.d == y.d) & (x.e == y.e) & (x.f == y.f) & (x.g == y.g);
+    first & second
+}
+
+fn read_values(s: &[u8], before: Number) -> Values
+    requires { ⌜ before .next ≤ length (now s) ⌝ }
+    ensures { λ r. ⌜ (before .next ≤ r .next) × (r .next ≤ length (now (s .entry))) ⌝ }
+{
+    let kind = cases::next_number(s, before);
+    let a = cases::next_number(s, kind);
+    let b = cases::next_number(s, a);
+    let c = cases::next_number(s, b);
+    let d = cases::next_number(s, c);
+    let e = cases::next_number(s, d);
+    let f = cases::next_number(s, e);
+    let g = cases::next_number(s, f);
+    Values {
+        answer: Answer {
+            refusal: 0,
+            kind: kind.value,
+            a: a.value,
+            b: b.value,
+            c: c.value,
+            d: d.value,
+            e: e.value,
+            f: f.value,
+            g: g.value,
+        },
+        next: g.next,
+    }
+}
+
+fn read_case(s: &[u8], at: usize) -> Case
+    requires { ⌜ at < length (now s) ⌝ }
+    ensures { λ r. ⌜ (at < r .next) × (r .next ≤ length (now (s .entry))) ⌝ }
+{
+    let size = cases::number_at(s, at);
+    let feeding = cases::next_number(s, size);
+    let opening = cases::next_number(s, feeding);
+    let values = read_values(s, opening);
+    let answer = values.answer;
+    Case {
+        length: size.value as usize,
+        feeding: feeding.value,
+        opening: opening.value,
+        values: answer,
+        next: values.next,
+    }
+}
+
+fn expected(refusal: u64, values: Answer) -> Answer {
+    if refusal == 0 {
+        values
+    } else {
+        refused(refusal)
+    }
+}
+
+fn is_read(line: &[u8], c: Case) -> bool {
+    let fed = line_answer(line_forms::read_line(line));
+    let opened = header_answer(line_forms::read_header(line));
+    let values = c.values;
+    is_same(fed, expected(c.feeding, values)) & is_same(opened, expected(c.opening, values))
+}
+
+fn try_case(s: &[u8], at: usize) -> Tried
+    requires { ⌜ at < length (now s) ⌝ }
+    ensures { λ r. ⌜ (at < r .next) × (r .next ≤ length (now (s .entry))) ⌝ }
+{
+    let c = read_case(s, at);
+    let start = c.next;
+    let size = c.length;
+    if s.len() - start <= size {
+        return Tried {
+            ok: false,
+            next: s.len(),
+        };
+    }
+    let end = start + size;
+    let ok = is_read(&s[start..end], c);
+    cases::print_unless(ok, &s[at..end]);
+    Tried {
+        ok: ok,
+        next: end + 1,
+    }
+}
+
+// The cases of one block of the input.
+fn try_cases(s: &[u8], before: Tally) -> Tally {
+    let mut tally = before;
+    let mut at = 0;
+    while at < s.len() {
+        let tried = try_case(s, at);
+        tally = cases::counted(tally, tried.ok);
+        at = tried.next;
+    }
+    tally
+}
+
+// Reads a block, which holds whole cases, and tries them.
+fn try_block(before: Block) -> Block {
+    let mut buf = io::large_buffer();
+    let input = cases::read_input(&mut buf);
+    if input.failed {
+        io::write_all(1, b"read failed\n");
+    }
+    let n = input.count;
+    Block {
+        more: 0 < n,
+        tally: try_cases(&buf[0..n], before.tally),
+    }
+}
+
+// The blocks of the input. Nothing says that it ends, so their number is counted down from one that no run uses up.
+fn try_all() -> Tally {
+    let mut block = Block {
+        more: true,
+        tally: Tally {
+            within: 0,
+            outside: 0,
+        },
+    };
+    let mut turns = u64::MAX;
+    while 0 < turns {
+        block = try_block(block);
+        if !block.more {
+            return block.tally;
+        }
+        turns = turns - 1;
+    }
+    block.tally
+}
+
+fn main() {
+    cases::print_tally(try_all());
+}

@@ -1,0 +1,221 @@
+#!/usr/bin/env python3
+"""Cases for the line forms: `length feeding opening kind a b c d e f g line`, the line as it is, of any bytes.
+
+`feeding` and `opening` are the refusals of the line as one after the header and as the header, 0 where it is
+accepted. Where it is, `kind` and the seven numbers are what it holds (see `numbers_of`), else they are 0.
+"""
+import itertools
+import random
+
+import stored
+from reference import forms
+from reference.forms import MONEY, Form
+
+KINDS = {"loan": 1, "loan_unscored": 2, "policy": 3, "deriv": 4, "asset": 5, "book": 7}
+AMOUNTS = ("claims", "lossc", "stated", "equity", "aoci", "b", "c")  # kind 6, numbered from 0
+CLASSES = (b"home", b"multi")
+DERIVATIVES = (b"rate", b"float", b"fx", b"equity", b"metal", b"other")
+
+# A form as a list of fields; each field is text, or a range of a number, or a choice of words.
+FIELDS = {
+    "book": (
+        b"(book (loans ", (0, 1_000_000), b") (unscored ", (0, 1), b") (scores ", (b"fresh", b"aged"), b") (held ",
+        (0, 10**13), b"))",
+    ),
+    "loan": (
+        b"(loan (bal ", (1, 200_000_000), b") (val ", (1, 10**10), b") (amort ", (1, 480), b") (term ", (1, 480),
+        b") (score ", (300, 900), b" ", (0, 600), b") (sup ", (0, 1), b"))",
+    ),
+    "loan_unscored": (
+        b"(loan (bal ", (1, 200_000_000), b") (val ", (1, 10**10), b") (amort ", (1, 480), b") (term ", (1, 480),
+        b") (score none) (sup ", (0, 1), b"))",
+    ),
+    "policy": (
+        b"(policy (class ", CLASSES, b") (prem ", (0, 100_000_000), b") (term ", (1, 480), b") (done ", (0, 40), b"))",
+    ),
+    "deriv": (
+        b"(deriv (kind ", DERIVATIVES, b") (cost ", (-MONEY, MONEY), b") (notional ", (0, MONEY), b") (months ",
+        (0, 600), b") (pays ", (1, 100), b") (factor ", (0, 10_000), b"))",
+    ),
+    "asset": (b"(asset (amount ", (0, MONEY), b") (factor ", (0, 10_000), b"))"),
+    "claims": (b"(claims ", (0, MONEY), b")"),
+    "lossc": (b"(lossc ", (0, MONEY), b")"),
+    "stated": (b"(stated ", (0, MONEY), b")"),
+    "equity": (b"(equity ", (-MONEY, MONEY), b")"),
+    "aoci": (b"(aoci ", (-MONEY, MONEY), b")"),
+    "b": (b"(b ", (0, MONEY), b")"),
+    "c": (b"(c ", (0, MONEY), b")"),
+}
+ODD_BYTES = b" \t\r\n\0()-+0129azAZ|.\x7f\x80\xa0\xff"
+ODD_NUMBERS = (
+    b"", b"00", b"01", b"-0", b"-1", b"--1", b"- 1", b"+1", b"1-", b"0x1", b"1.0", b"1e3", b" 1", b"1 ", b"none", b"D",
+    b"1,000", b"9" * 14, b"1" + b"0" * 14, b"9" * 15, b"-" + b"9" * 14, b"-1" + b"0" * 14, b"0" * 14, b"9" * 20,
+    b"18446744073709551617", b"\xb2", b"\xd9\xa3",
+)
+
+
+def _signed(x):
+    return max(x, 0), max(-x, 0)
+
+
+def numbers_of(form):
+    """The kind and the seven numbers of an accepted line."""
+    v = form.values
+    if form.kind == "loan_unscored":
+        found = v[:4] + (0, 0) + v[4:]
+    elif form.kind == "policy":
+        found = (CLASSES.index(v[0]),) + v[1:]
+    elif form.kind == "deriv":
+        found = (DERIVATIVES.index(v[0]),) + _signed(v[1]) + v[2:]
+    elif form.kind == "book":
+        found = v[:2] + (int(v[2] == b"aged"),) + v[3:]
+    elif form.kind in AMOUNTS:
+        found = (AMOUNTS.index(form.kind),) + _signed(v[0])
+    else:
+        found = v
+    return (KINDS.get(form.kind, 6),) + found + (0,) * (7 - len(found))
+
+
+def case(line):
+    feeding, opening = forms.read_feeding(line), forms.read_opening(line)
+    numbers = (0,) * 8
+    answers = []
+    for answer in (feeding, opening):
+        if isinstance(answer, Form):
+            numbers = numbers_of(answer)
+            answers.append(0)
+        else:
+            answers.append(answer)
+    return b" ".join(b"%d" % n for n in (len(line), *answers, *numbers)) + b" " + line + b"\n"
+
+
+def _choices(field):
+    """The texts that a field is tried with, the first an ordinary one."""
+    if isinstance(field, bytes):
+        return [field]
+    if isinstance(field[0], bytes):
+        return list(field)
+    low, high = field
+    middle = max(low, min(high, 720 if high == 900 else 7))
+    values = [middle, low, high, high + 1, low + 1, high - 1] + ([low - 1] if low else [])
+    return [b"%d" % x for x in dict.fromkeys(values)]
+
+
+def _with(fields, i, text):
+    return b"".join(text if j == i else _choices(f)[0] for j, f in enumerate(fields))
+
+
+def _ordinary(fields):
+    return _with(fields, -1, b"")
+
+
+def _ranges():
+    """Every number at both ends of its range and beyond, every word, numbers of other shapes; every pair of ends."""
+    for fields in FIELDS.values():
+        variable = [i for i, f in enumerate(fields) if not isinstance(f, bytes)]
+        for i in variable:
+            for text in _choices(fields[i]):
+                yield _with(fields, i, text)
+            if isinstance(fields[i][0], bytes):
+                for text in (b"", b"gold", fields[i][0].upper(), fields[i][0] + b"s", fields[i][0][:-1], b"0"):
+                    yield _with(fields, i, text)
+            else:
+                for text in ODD_NUMBERS:
+                    yield _with(fields, i, text)
+        for end in (1, 2):
+            yield b"".join(_choices(f)[min(end, len(_choices(f)) - 1)] for f in fields)
+
+
+def _headers():
+    """Loans and unscored around each other: refusals 3 and 4 in order."""
+    most = 10**6
+    counts = ((0, 0), (0, 1), (1, 1), (1, 2), (20, 21), (most, most), (most, most + 1), (most + 1, 0), (most + 1, 10**7))
+    for loans, unscored in counts + ((5, 10**14 - 1),):
+        for held in (0, 10**13, 10**13 + 1):
+            for scores in (b"fresh", b"aged"):
+                yield b"(book (loans %d) (unscored %d) (scores %s) (held %d))" % (loans, unscored, scores, held)
+
+
+def _bytes(source):
+    """Every byte of a line of each form replaced, dropped, doubled, and a byte put before it."""
+    for fields in FIELDS.values():
+        line = _ordinary(fields)
+        for i in range(len(line)):
+            others = [bytes((b,)) for b in ODD_BYTES if b != line[i]]
+            for new in source.sample(others, 2) + [bytes((line[i] ^ 0x20,))]:
+                yield line[:i] + new + line[i + 1 :]
+            yield line[:i] + line[i + 1 :]
+            yield line[:i] + line[i : i + 1] + line[i:]
+            if source.randrange(3) == 0:
+                yield line[:i] + source.choice(others) + line[i:]
+
+
+def _shapes():
+    """Other orders, missing and further fields, other surroundings, other lengths."""
+    loan = _ordinary(FIELDS["loan"])
+    parts = [b"(bal 7)", b"(val 7)", b"(amort 7)", b"(term 7)", b"(score 720 7)", b"(sup 1)"]
+    for order in itertools.islice(itertools.permutations(parts), 0, 720, 29):
+        yield b"(loan " + b" ".join(order) + b")"
+    for i in range(len(parts)):
+        yield b"(loan " + b" ".join(parts[:i] + parts[i + 1 :]) + b")"
+        yield b"(loan " + b" ".join(parts[: i + 1] + parts[i:]) + b")"
+    for name, fields in FIELDS.items():
+        line = _ordinary(fields)
+        for before in (b" ", b"\t", b"\0", b"(", b"0", b"\xef\xbb\xbf"):
+            yield before + line
+        for after in (b" ", b"\t", b"\r", b"\n", b"\0", b")", b"0", b" " + line, line):
+            yield line + after
+        yield line.upper()
+        yield line.replace(b" ", b"  ")
+        yield line.replace(b" ", b"\t")
+        yield line.replace(b") (", b")(")
+        yield line.replace(b"(", b"[").replace(b")", b"]")
+        yield line[1:-1]
+        yield b"(" + name.encode() + b")"
+        yield b"(" + name.encode() + b" )"
+        for length in (239, 240, 241, 242):
+            yield line + b" " * (length - len(line))
+            yield line[:-1] + b"0" * (length - len(line)) + b")"
+    for length in range(len(loan)):
+        yield loan[:length]
+    for length in (0, 1, 2, 239, 240, 241, 255, 256, 257, 1000, 4096):
+        for b in (b" ", b"(", b"0", b"\0", b"\xff"):
+            yield b * length
+    for b in range(256):
+        yield bytes((b,))
+        yield b"(c %c)" % b
+
+
+def _random(source):
+    """A line of some form with numbers of any size, sometimes damaged in up to three places."""
+    fields = source.choice(list(FIELDS.values()))
+    out = []
+    for field in fields:
+        if isinstance(field, bytes):
+            out.append(field)
+        elif isinstance(field[0], bytes):
+            out.append(source.choice(field))
+        else:
+            low, high = field
+            inside, any_size = source.randrange(low, high + 1), source.randrange(10 ** source.randrange(1, 15))
+            out.append(b"%d" % source.choice((low, high, high + 1, low - 1, inside, inside, any_size)))
+    line = b"".join(out)
+    for _ in range(source.choice((0, 0, 0, 1, 2, 3))):
+        i = source.randrange(len(line) + 1)
+        line = line[:i] + source.choice((b"", bytes((source.choice(ODD_BYTES),)))) + line[i + source.randrange(2) :]
+    return line
+
+
+def stored_cases():
+    source = random.Random(240)
+    lines = itertools.chain(_ranges(), _headers(), _shapes(), _bytes(source), (_random(source) for _ in range(1200)))
+    return [case(line) for line in dict.fromkeys(lines)]
+
+
+def more_cases(seed, count):
+    source = random.Random(seed)
+    return (case(_random(source)) for _ in range(count))
+
+
+if __name__ == "__main__":
+    stored.main("try_lines", __doc__, stored_cases, more_cases)

@@ -1,0 +1,191 @@
+#!/usr/bin/env python3
+"""Cases for the loan charge and the credit factors, one to a line, all numbers unsigned, the first the case's kind:
+
+1 p q balance months term sup m, then the least and the greatest allowed total number and the least and the
+greatest allowed supplement number, each as two numbers, what is above 0 and what is below. The property value
+is p / q balances, m is in 10^17ths, and the allowed numbers are in cents.
+
+2 scored number age aged loans unscored m, the header's loans and unscored among them, m in 10^17ths.
+"""
+import random
+from fractions import Fraction
+from math import isqrt
+
+import stored
+from reference import loan
+
+DISTANCE = Fraction(105, 100)
+UNIT = 10**17
+P_MOST, Q_MOST = 10**18, 2 * 10**16
+BALANCE_MOST = 200_000_000
+MONTHS_MOST = 480
+FACTORS = {f for _, row in loan.CREDIT_BANDS for f in row} | {"1.3", "3.0", "0.01"}
+M_VALUES = sorted({int(Fraction(f) * UNIT) for f in FACTORS})
+MONTHS = sorted(
+    {m for b in loan.BREAKPOINTS + (8, 1) for m in (b - 1, b, b + 1) if 1 <= m <= MONTHS_MOST}
+)
+
+
+def _line(numbers):
+    return b" ".join(b"%d" % n for n in numbers) + b"\n"
+
+
+def _pair(x):
+    return (max(x, 0), max(-x, 0))
+
+
+def case(p, q, balance, months, term, sup, m):
+    z = loan.scaled_value(p, q)
+    factor = Fraction(m, UNIT)
+    allowed = loan.allowed_total(loan.total(z, balance, months, term, sup, factor), DISTANCE)
+    allowed += loan.allowed_supplement(loan.supplement(z, balance, months, term, sup, factor), DISTANCE)
+    numbers = [1, p, q, balance, months, term, sup, m]
+    for x in allowed:
+        numbers += _pair(x)
+    return _line(numbers)
+
+
+def factor_case(score, aged, loans, unscored):
+    m = int(loan.credit_factor(score, aged, loans, unscored) * UNIT)
+    number, age = (0, 0) if score is None else score
+    return _line([2, int(score is not None), number, age, int(aged), loans, unscored, m])
+
+
+def _spread(source, most):
+    """A number from 1 to most, of any length."""
+    return 1 + source.randrange(10 ** source.randrange(1, len(str(most)) + 1)) % most
+
+
+def _near(source, z):
+    """p and q with p / q next to z, on either side."""
+    q = _spread(source, Q_MOST)
+    p = int(z * q) + source.randrange(-1, 3)
+    return min(max(p, 1), P_MOST), q
+
+
+def _ordinary(source):
+    """A value and a balance in cents, as in a plain book."""
+    balance = _spread(source, BALANCE_MOST)
+    value = min(max(int(balance * Fraction(source.randrange(700, 3500), 1000)), 1), 10**10)
+    return value, balance, balance
+
+
+def _m(source):
+    return source.choice(M_VALUES) if source.randrange(4) else source.randrange(UNIT // 100, 3 * UNIT + 1)
+
+
+def _term(source, months):
+    return source.choice((60, 61, 60, 61, 1, 480, source.randrange(1, 481), months))
+
+
+def _curve_z(source, months, term):
+    """A z of interest: 1, 16, the ends of the table, the top of a curve, the limit of a, or any."""
+    kind = source.choice((0, 1, 2, 2, 3, 3, 3, 4, 5, 5, 5, 5, 6))
+    if kind == 0:
+        return Fraction(1)
+    if kind == 1:
+        return Fraction(source.choice((16, 16, 17, 24, 32)))
+    s = source.choice(loan.coefficients(months, term))
+    i = source.choice("12")
+    if kind == 2:  # (z - mu)^2 / (2 sigma^2) = 24
+        square = 48 * s["sigma" + i] ** 2
+        return s["mu" + i] + Fraction(isqrt(int(square * 10**40)), 10**20)
+    if kind == 3:
+        return s["mu" + i]
+    if kind == 4:
+        return source.choice((Fraction("11.7"), Fraction("10.6")))
+    if kind == 5:
+        return 1 + Fraction(source.randrange(10**6), 10**6) * source.choice((Fraction(1, 2), 1, 4))
+    return Fraction(_spread(source, P_MOST), _spread(source, Q_MOST))
+
+
+def _random(source):
+    months = source.choice(MONTHS) if source.randrange(2) else source.randrange(1, MONTHS_MOST + 1)
+    term = _term(source, months)
+    sup = source.randrange(2)
+    if source.randrange(3) == 0:
+        p, q, balance = _ordinary(source)
+    else:
+        p, q = _near(source, _curve_z(source, months, term))
+        balance = source.choice((_spread(source, BALANCE_MOST), source.randrange(1, BALANCE_MOST + 1), BALANCE_MOST, q))
+        balance = min(balance, BALANCE_MOST)
+    return p, q, balance, months, term, sup, _m(source)
+
+
+def _nearly_paid(source):
+    """A few months left and a small balance: the base can be negative."""
+    months = source.randrange(1, 10)
+    balance = 1 + source.randrange(10 ** source.randrange(1, 7))
+    z = Fraction(source.randrange(1200, 3500), 1000)
+    p, q = _near(source, z) if source.randrange(2) else (int(z * balance) or 1, balance)
+    return p, q, balance, months, _term(source, months), source.randrange(2), _m(source)
+
+
+def _extremes():
+    for p in (1, P_MOST):
+        for q in (1, Q_MOST):
+            for balance in (1, BALANCE_MOST):
+                for months in (1, MONTHS_MOST):
+                    for term in (60, 61):
+                        for sup in (0, 1):
+                            yield p, q, balance, months, term, sup, _extreme_m(p, months)
+
+
+def _extreme_m(p, months):
+    return M_VALUES[0] if (p == 1) == (months == 1) else M_VALUES[-1]
+
+
+def _each_month(source):
+    """Every breakpoint and one month either side, in both sets, at several z."""
+    for months in MONTHS:
+        for term in (60, 61):
+            for _ in range(8):
+                p, q = _near(source, _curve_z(source, months, term))
+                balance = source.randrange(1, BALANCE_MOST + 1)
+                yield p, q, balance, months, term, source.randrange(2), _m(source)
+            for sup in (0, 1):
+                balance = source.randrange(1_000_000, BALANCE_MOST + 1)
+                value = balance * source.randrange(100, 140) // 100
+                yield value, balance, balance, months, term, sup, UNIT
+
+
+def _each_factor(source):
+    for m in M_VALUES:
+        for sup in (0, 1):
+            for _ in range(6):
+                p, q, balance = _ordinary(source)
+                months = source.randrange(1, MONTHS_MOST + 1)
+                yield p, q, balance, months, _term(source, months), sup, m
+
+
+def _factors():
+    """Every band's and every age column's two ends, fresh and aged; the two factors without a score."""
+    numbers = sorted({n for low, _ in loan.CREDIT_BANDS[1:] for n in (low - 1, low)} | {300, 900})
+    ages = sorted({a for limit in loan.AGE_LIMITS for a in (limit, limit + 1)} | {0, 600})
+    for number in numbers:
+        for age in ages:
+            for aged in (False, True):
+                yield (number, age), aged, 100, 50
+    for loans in (0, 1, 19, 20, 21, 39, 40, 41, 999_999, 1_000_000):
+        for unscored in sorted({0, loans // 20, loans // 20 + 1, max(loans // 20 - 1, 0), loans}):
+            if unscored <= loans:
+                for aged in (False, True):
+                    yield None, aged, loans, unscored
+
+
+def stored_cases():
+    source = random.Random(17)
+    loans = list(_extremes()) + list(_each_month(source)) + list(_each_factor(source))
+    loans += [_nearly_paid(source) for _ in range(500)]
+    loans += [_random(source) for _ in range(3000)]
+    return [case(*values) for values in loans] + [factor_case(*values) for values in _factors()]
+
+
+def more_cases(seed, count):
+    source = random.Random(seed)
+    for i in range(count):
+        yield case(*(_nearly_paid(source) if i % 8 == 0 else _random(source)))
+
+
+if __name__ == "__main__":
+    stored.main("try_loan_charge", __doc__, stored_cases, more_cases)

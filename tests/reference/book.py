@@ -1,0 +1,247 @@
+"""The book of document 01: opening, feeding, closing, the report, and the exact requirement.
+
+A loan's two numbers are free within a distance, so the report is computed from given sums of them,
+and `sum_bounds` tells which sums are allowed.
+"""
+from fractions import Fraction
+from math import ceil, floor
+
+from . import forms, loan
+from .exponential import combination_bounds
+
+OTHER_LINES = 100_000
+REPORT_BUFFER = 512
+
+# 002, 4.2.1.1: add-ons for a residual maturity of one year or less, to five years, over five years.
+ADD_ONS = {
+    b"rate": ("0.0", "0.5", "1.5"),
+    b"float": ("0", "0", "0"),  # note 5: no potential exposure
+    b"fx": ("1.0", "5.0", "7.5"),
+    b"equity": ("6.0", "8.0", "10.0"),
+    b"metal": ("7.0", "7.0", "8.0"),
+    b"other": ("10.0", "12.0", "15.0"),
+}
+
+# 002, 3.3: per cent of the single premium; rows by completed years from 1, a blank cell is None.
+PROVISIONS = (
+    ("2.0", "3.0", "4.0", "4.0"),
+    ("1.0", "2.0", "4.0", "4.0"),
+    ("0.5", "1.0", "3.5", "4.0"),
+    (None, "1.0", "3.0", "5.5"),
+    (None, "0.5", "3.0", "6.0"),
+    (None, "0.5", "2.0", "5.0"),
+    (None, "0.0", "1.0", "3.5"),
+    (None, None, "1.0", "2.0"),
+    (None, None, "1.0", "1.5"),
+    (None, None, "1.0", "1.5"),
+    (None, None, "0.0", "1.0"),
+    (None, None, None, "1.0"),
+    (None, None, None, "0.5"),
+    (None, None, None, "0.5"),
+    (None, None, None, "0.5"),
+    (None, None, None, "0.5"),
+    (None, None, None, "0.5"),
+    (None, None, None, "0.5"),
+    (None, None, None, "0.5"),
+    (None, None, None, "0.0"),
+)
+TERM_LIMITS = (60, 120, 180)
+
+
+def _column(x, limits):
+    return sum(1 for limit in limits if x > limit)
+
+
+def add_on(kind, months):
+    return Fraction(ADD_ONS[kind][_column(months, (12, 60))]) / 100
+
+
+def derivative(kind, cost, notional, months, pays, factor):
+    return (max(cost, 0) + notional * add_on(kind, months) * pays) * Fraction(factor, 10_000)
+
+
+def provision(premium, term, done):
+    """002, 3.3; 20 completed years and more are the last row."""
+    if done == 0:
+        return Fraction(0)
+    cell = PROVISIONS[min(done, len(PROVISIONS)) - 1][_column(term, TERM_LIMITS)]
+    return Fraction(0) if cell is None else premium * Fraction(cell) / 100
+
+
+def rest_share(form):
+    """What a line that is not a loan adds to the exact sum of `rest`."""
+    kind, v = form
+    if kind == "asset":
+        return v[0] * Fraction(v[1], 10_000)
+    if kind == "claims":
+        return v[0] * Fraction(20, 100)
+    if kind == "lossc":
+        return v[0] * Fraction(40, 100)
+    if kind == "stated":
+        return Fraction(v[0])
+    if kind == "deriv":
+        return derivative(*v)
+    if kind == "policy" and v[0] == b"multi":
+        return Fraction(5, 4) * provision(*v[1:])
+    return Fraction(0)
+
+
+def moved_share(form):
+    kind, v = form
+    return provision(*v[1:]) if kind == "policy" and v[0] == b"home" else Fraction(0)
+
+
+def admitted(equity, b, c):
+    """Document 01, capital: the admitted amounts of b and of c."""
+    e = max(equity, 0)
+    two_thirds = floor(Fraction(2 * e, 3))
+    admitted_b = min(b, two_thirds)
+    admitted_c = min(c, two_thirds - admitted_b, floor(Fraction(7 * (e + admitted_b), 93)))
+    return admitted_b, admitted_c
+
+
+def ratio(capital, required):
+    """In hundredths of a per cent, or None where nothing is required."""
+    if required == 0:
+        return None
+    return max(-10_000_000, min(10_000_000, floor(Fraction(capital * 15_000, required))))
+
+
+def loan_values(form):
+    """Balance, value, months, term, score or None, sup of a loan's line."""
+    v = form.values
+    if form.kind == "loan":
+        return v[0], v[1], v[2], v[3], (v[4], v[5]), v[6]
+    return v[0], v[1], v[2], v[3], None, v[4]
+
+
+class Book:
+    """The header's values and the forms of the lines taken."""
+
+    def __init__(self, loans, unscored, scores, held):
+        self.loans = loans
+        self.unscored = unscored
+        self.aged = scores == b"aged"
+        self.held = held
+        self.taken = []
+        self.loan_count = 0
+        self.unscored_count = 0
+        self.other_count = 0
+
+    def feed(self, line):
+        """0 where the line is taken, else its refusal."""
+        form = forms.read_feeding(line)
+        if isinstance(form, int):
+            return form
+        if form.kind in ("loan", "loan_unscored"):
+            scoreless = form.kind == "loan_unscored"
+            if self.loan_count == self.loans or (scoreless and self.unscored_count == self.unscored):
+                return 5
+            self.loan_count += 1
+            self.unscored_count += scoreless
+        else:
+            if self.other_count == OTHER_LINES:
+                return 8
+            self.other_count += 1
+        self.taken.append(form)
+        return 0
+
+    def closing_refusal(self, buffer=REPORT_BUFFER):
+        if self.loan_count < self.loans or self.unscored_count < self.unscored:
+            return 6
+        return 9 if buffer < REPORT_BUFFER else 0
+
+    def loan_terms(self, form):
+        """The exact base plus supplement, and the exact supplement, of a loan taken."""
+        balance, value, months, term, score, sup = loan_values(form)
+        z = loan.scaled_value(value, balance)
+        m = loan.credit_factor(score, self.aged, self.loans, self.unscored)
+        return loan.total(z, balance, months, term, sup, m), loan.supplement(z, balance, months, term, sup, m)
+
+    def _loans_taken(self):
+        return [f for f in self.taken if f.kind in ("loan", "loan_unscored")]
+
+    def sum_bounds(self, distance):
+        """The least and greatest allowed sum of the loans' total numbers, and of their supplements."""
+        sums = [0, 0, 0, 0]
+        for form in self._loans_taken():
+            total, supplement = self.loan_terms(form)
+            found = loan.allowed_total(total, distance) + loan.allowed_supplement(supplement, distance)
+            sums = [s + x for s, x in zip(sums, found)]
+        return tuple(sums)
+
+    def sums(self, kind):
+        return sum(f.values[0] for f in self.taken if f.kind == kind)
+
+    def figures(self, total, supplement):
+        """The report's numbers from the two sums of the loans' numbers."""
+        rest = ceil(sum(map(rest_share, self.taken), Fraction(0)))
+        moved = ceil(sum(map(moved_share, self.taken), Fraction(0)))
+        home = max(total - self.held, 0)
+        oper = ceil(Fraction(max(home + rest - supplement, 0), 5))
+        required = home + rest + oper
+        equity, aoci, b, c = map(self.sums, ("equity", "aoci", "b", "c"))
+        capital = equity + aoci + sum(admitted(equity, b, c))
+        return (
+            ("loans", self.loan_count),
+            ("total", total),
+            ("supplement", supplement),
+            ("home", home),
+            ("moved", moved),
+            ("rest", rest),
+            ("oper", oper),
+            ("required", required),
+            ("capital", capital),
+            ("ratio", ratio(capital, required)),
+        )
+
+    def report(self, total, supplement):
+        return b"".join(
+            b"(%s %s)\n" % (name.encode(), b"none" if value is None else str(value).encode())
+            for name, value in self.figures(total, supplement)
+        )
+
+    def exact_requirement(self):
+        """Bounds of the exact requirement: no rounding, each loan with its exact amounts."""
+        rest = sum(map(rest_share, self.taken), Fraction(0))
+        ends = []
+        totals, supplements = [], []
+        for form in self._loans_taken():
+            total, supplement = self.loan_terms(form)
+            totals.append(combination_bounds(total))
+            supplements.append(combination_bounds(supplement))
+        for side in (0, 1):
+            # The requirement rises with the totals and falls with the supplements.
+            total = sum((t[side] for t in totals), Fraction(0))
+            supplement = sum((s[1 - side] for s in supplements), Fraction(0))
+            home = max(total - self.held, Fraction(0))
+            ends.append(home + rest + max(home + rest - supplement, Fraction(0)) / 5)
+        return tuple(ends)
+
+
+def open_book(line):
+    """A book, or the number of the refusal."""
+    form = forms.read_opening(line)
+    return form if isinstance(form, int) else Book(*form.values)
+
+
+def split_lines(data):
+    """A line ends at a newline or at the end of the input; a newline at the very end begins no further line."""
+    lines = data.split(b"\n")
+    if len(lines) > 1 and lines[-1] == b"":
+        lines.pop()
+    return lines
+
+
+def run(data):
+    """The open book after a whole input, or (refusal, line number)."""
+    lines = split_lines(data)
+    book = open_book(lines[0])
+    if isinstance(book, int):
+        return book, 1
+    for number, line in enumerate(lines[1:], 2):
+        refusal = book.feed(line)
+        if refusal:
+            return refusal, number
+    refusal = book.closing_refusal()
+    return (refusal, len(lines) + 1) if refusal else book

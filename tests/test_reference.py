@@ -1,0 +1,110 @@
+"""The reference held to document 01's twelve examples, and to Python's own decimal exponential."""
+import decimal
+import random
+import unittest
+from fractions import Fraction as F
+
+from reference import book, exponential, forms, loan
+
+
+class Examples(unittest.TestCase):
+    def test_01_bracket(self):
+        self.assertEqual(exponential.bracket(1, 2), (F(6, 17), F(2, 5)))
+
+    def test_02_c1_other_set(self):
+        self.assertEqual(loan.coefficients(192, 61)[0]["c1"], 2488)
+        self.assertEqual(loan.coefficients(193, 61)[0]["c1"], F(29635, 12))
+
+    def test_03_sigma2_first_set(self):
+        self.assertEqual(loan.coefficients(186, 60)[0]["sigma2"], F(16, 100))
+        self.assertEqual(loan.coefficients(187, 60)[0]["sigma2"], F(19433, 120000))
+
+    def test_04_c2(self):
+        for term in (60, 61):
+            self.assertEqual(loan.coefficients(8, term)[0]["c2"], F(-25, 3))
+            self.assertEqual(loan.coefficients(9, term)[0]["c2"], F(5, 4))
+
+    def test_05_exponent(self):
+        self.assertEqual(loan.exponent(F(1), F(90, 100), F(17, 100)), F(50, 289))
+
+    def test_06_credit_factor(self):
+        self.assertEqual(loan.credit_factor((719, 13), True, 1, 0), 1)
+        self.assertEqual(loan.credit_factor((720, 12), True, 1, 0), F(65, 100))
+
+    def test_07_unscored(self):
+        self.assertEqual(loan.credit_factor(None, False, 20, 1), F(13, 10))
+        self.assertEqual(loan.credit_factor(None, False, 19, 1), 3)
+
+    def test_08_add_on(self):
+        self.assertEqual(book.add_on(b"rate", 60), F(5, 1000))
+        self.assertEqual(book.add_on(b"rate", 61), F(15, 1000))
+
+    def test_09_provision(self):
+        form = forms.read_feeding(b"(policy (class multi) (prem 1000000) (term 300) (done 5))")
+        self.assertEqual(book.rest_share(form), 75000)
+
+    def test_10_admitted_b(self):
+        self.assertEqual(book.admitted(600, 500, 100), (400, 0))
+
+    def test_11_admitted_c(self):
+        self.assertEqual(book.admitted(9300, 0, 1000), (0, 700))
+
+    def test_12_report(self):
+        found = book.run(
+            b"(book (loans 0) (unscored 0) (scores fresh) (held 0))\n"
+            b"(asset (amount 100000) (factor 25))\n(claims 1001)\n(equity 1000)\n(c 100)\n"
+        )
+        self.assertEqual(
+            found.report(0, 0),
+            b"(loans 0)\n(total 0)\n(supplement 0)\n(home 0)\n(moved 0)\n(rest 451)\n(oper 91)\n"
+            b"(required 542)\n(capital 1075)\n(ratio 29750)\n",
+        )
+
+
+class Exponential(unittest.TestCase):
+    def test_against_decimal(self):
+        source = random.Random(1)
+        with decimal.localcontext() as context:
+            context.prec = 90
+            for _ in range(400):
+                y = F(source.randrange(10**12), source.choice((10**9, 10**10, 10**11, 10**12)))
+                y = min(y, F(100))
+                low, high = exponential.bounds(y)
+                value = (-decimal.Decimal(y.numerator) / decimal.Decimal(y.denominator)).exp()
+                close = value * decimal.Decimal(10) ** -80
+                self.assertLess(low, F(value + close))
+                self.assertGreater(high, F(value - close))
+                self.assertLess(high - low, low * F(1, 10**60))
+
+    def test_inside_every_bracket(self):
+        for y in (F(0), F(1, 64), F(1), F(50, 289), F(7, 2), F(24)):
+            low, high = exponential.bounds(y)
+            for n in (48, 60, 90):
+                least, greatest = exponential.bracket(y, n)
+                self.assertLessEqual(least, high)
+                self.assertLessEqual(low, greatest)
+
+    def test_sign_of_huge_exponents(self):
+        far = F(10**21)
+        self.assertEqual(exponential.combination_sign([(F(-5), far), (F(1), far - 2)]), 1)
+        self.assertEqual(exponential.combination_sign([(F(-9), far), (F(1), far - 2)]), -1)
+        self.assertEqual(exponential.combination_ceil([(F(1), far)]), 1)
+        self.assertEqual(exponential.combination_ceil([(F(-1), far)]), 0)
+        self.assertEqual(exponential.combination_floor([(F(-1), far)]), -1)
+
+
+class Forms(unittest.TestCase):
+    def test_order_of_refusals(self):
+        header = b"(book (loans 1000001) (unscored 2000000) (scores aged) (held 0))"
+        self.assertEqual(forms.read_opening(header), 3)
+        self.assertEqual(forms.read_feeding(header), 7)
+        self.assertEqual(forms.read_opening(b"(claims 99999999999999)"), 7)
+        self.assertEqual(forms.read_feeding(b"(claims 99999999999999)"), 3)
+        self.assertEqual(forms.read_opening(header.replace(b"1000001", b"1000000")), 4)
+        self.assertEqual(forms.read_feeding(b" " * 241), 1)
+        self.assertEqual(forms.read_feeding(b" " * 240), 2)
+        self.assertEqual(forms.read_feeding(b"(claims 1)\n"), 2)
+
+
+if __name__ == "__main__":
+    unittest.main()
