@@ -49,7 +49,7 @@ terms-stay : (past : History) (s : List ℕ) → termsOf (fed past s) ≡ termsO
 unfolding termsOf
 terms-stay past s = refl
 
-one-more : (past : History) (h : Header) → termsOf past ≡ termsWith h → (s : List ℕ) → accept h (record { kept = standing past }) s .kept ≡ standing (fed past s)
+pub one-more : (past : History) (h : Header) → termsOf past ≡ termsWith h → (s : List ℕ) → accept h (record { kept = standing past }) s .kept ≡ standing (fed past s)
 unfolding acceptedOf
 one-more past h e s = ap (λ (t : Terms). accept (t .header) (acceptedOf past) s .kept) (sym e)
 
@@ -67,7 +67,7 @@ terms-along past [] = refl
 terms-along past (s ∷ lines) = terms-along (fed past s) lines ∙ terms-stay past s
 
 -- the book just opened has no line taken
-opened-empty : (header : List ℕ) → opening header .book ≡ bookOf (termsWith (headerIn (headerOf header))) []
+pub opened-empty : (header : List ℕ) → opening header .book ≡ bookOf (termsWith (headerIn (headerOf header))) []
 unfolding openingFor headerIn sumsOf sumOf map
 opened-empty header = go (headerOf header)
   where
@@ -79,7 +79,7 @@ terms-opened : (header : List ℕ) → termsOf (opened header) ≡ termsWith (he
 unfolding termsOf
 terms-opened header = refl
 
-none-standing : (header : List ℕ) → standing (opened header) ≡ []
+pub none-standing : (header : List ℕ) → standing (opened header) ≡ []
 unfolding acceptedOf
 none-standing header = refl
 

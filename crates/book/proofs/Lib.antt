@@ -1,5 +1,6 @@
 pub mod BoundedShares
 pub mod Bounds
+pub mod Chain
 pub mod Closings
 pub mod Demand3
 pub mod ExactSums
