@@ -2,6 +2,7 @@ pub mod BoundedShares
 pub mod Bounds
 pub mod Chain
 pub mod Closings
+pub mod Demand2
 pub mod Demand3
 pub mod ExactSums
 pub mod Feeding
