@@ -10,7 +10,7 @@ use denote.Ref.{now}
 use Rattle.book.specs.declared.Book.{Book}
 use Rattle.book.specs.declared.Opened.{Opened}
 use Rattle.book.specs.declared.Fed.{Fed}
-use Rattle.book.specs.Calls.{opening, feeding, closing, closed}
+use Rattle.book.specs.Calls.{feeding, closing, closed}
 use Rattle.book.specs.History.{History, opened, fed, headerIn, termsOf, standing, bookOf}
 use Rattle.line_forms.specs.declared.Header.{Header}
 use Rattle.line_forms.specs.Readings.{headerOf}
@@ -33,11 +33,11 @@ use Rattle.book.proofs.close.Kinds as close-kinds
 -- the book that the call before gave back. `feed` and `feed_with` mix freely.
 pub data Given : History → Book → Type 0 where
   by-open : (κs : Lfts 1) (a : Dens κs open-kinds.ps) (r : Opened) (s : AtExit (endedOf 1 open-kinds.ps open-kinds.r) κs) →
-    open-reads.Learnt κs a r s → r .refusal ≡ 0 → Given (opened (now (a .0))) (r .book)
+      open-reads.Learnt κs a r s → r .refusal ≡ 0 → Given (opened (now (a .0))) (r .book)
   by-feed : {h : History} {b : Book} → Given h b → (κs : Lfts 1) (a : Dens κs feed-kinds.ps) (r : Fed) (s : AtExit (endedOf 1 feed-kinds.ps feed-kinds.r) κs) →
-    a .0 ≡ b → feed-reads.Learnt κs a r s → Given (fed h (now (a .1 .0))) (r .book)
+      a .0 ≡ b → feed-reads.Learnt κs a r s → Given (fed h (now (a .1 .0))) (r .book)
   by-feed-with : {h : History} {b : Book} → Given h b → (κs : Lfts 3) (a : Dens κs with-kinds.ps) (r : Fed) (s : AtExit (endedOf 3 with-kinds.ps with-kinds.r) κs) →
-    a .0 ≡ b → with-reads.Learnt κs a r s → Given (fed h (now (a .1 .1 .1 .0))) (r .book)
+      a .0 ≡ b → with-reads.Learnt κs a r s → Given (fed h (now (a .1 .1 .1 .0))) (r .book)
 
 -- its terms are those of a header under the regulator's table
 pub header-of : {h : History} {b : Book} → Given h b → Header

@@ -1,12 +1,11 @@
 -- Demand 2: each refusal when and only when its condition holds. Assumes nothing.
-use mathlib.Core.Path.{_≡_, refl, sym, _∙_, ap, subst}
+use mathlib.Core.Path.{_≡_, refl, sym, ap}
 use mathlib.Core.Bool.{Bool, true, false, true≢false, false≢true}
 use mathlib.Core.List.{List}
-use mathlib.Core.Logic.{_↔_, _⊎_, ⊎-elim, inl, inr}
-use Prim.Native.Nat.{ℕ, _≤_, _<_}
+use mathlib.Core.Logic.{_↔_, _⊎_, ⊎-elim}
+use Prim.Native.Nat.{ℕ}
 use native.Mathlib.Omega.{arith}
 use lib.Dec.{ltb}
-use lib.ListN.{length}
 use borrow.Author.Tests.{ltb-true, ltb-false, lt-ltb, le-ltb}
 use Rattle.exact.specs.Choice.{pick}
 use Rattle.line_forms.specs.declared.Header.{Header}
@@ -22,10 +21,9 @@ use Rattle.line_forms.specs.Claims.{AfterHeader, lineWith, LineReading, HeaderR
 use Rattle.line_forms.proofs.LineLaws.{line-reading}
 use Rattle.line_forms.proofs.HeaderLaws.{header-reading}
 use Rattle.book.specs.declared.Opened.{Opened}
-use Rattle.book.specs.declared.Book.{Book}
-use Rattle.book.specs.Accepted.{refusalFor, refusalOf, countOf, isLoan, isUnscored, isOther, loanBeyond, otherBeyond}
-use Rattle.book.specs.Calls.{emptyBook, opening, openingFor, wanting, closingRefusal}
-use Rattle.book.specs.Demand2.{Shows, ShowsInRange, OtherForm, OpeningRefusals, beyond, FeedingRefusals, ClosingRefusals, Demand2}
+use Rattle.book.specs.Accepted.{refusalFor, countOf, isLoan, isUnscored, isOther, loanBeyond, otherBeyond}
+use Rattle.book.specs.Calls.{emptyBook, openingFor, wanting}
+use Rattle.book.specs.Demand2.{ShowsInRange, OtherForm, OpeningRefusals, beyond, FeedingRefusals, ClosingRefusals, Demand2}
 
 -- Closing
 

@@ -5,6 +5,7 @@ pub mod Closings
 pub mod Demand2
 pub mod Demand3
 pub mod ExactSums
+pub mod Examples
 pub mod Feeding
 pub mod Near
 pub mod Ranged
