@@ -5,7 +5,7 @@ use mathlib.Core.List.{List, [], _∷_}
 use Prim.Native.Nat.{ℕ, _+_, _^_, _≤_, _<_}
 use native.Mathlib.Omega.{arith}
 use lib.Dec.{eqb, ltb}
-use lib.ListN.{length}
+use lib.ListN.{length, drop, length-append}
 use borrow.Author.Tests.{eq-eqb, ne-eqb, le-ltb}
 use Rattle.exact.specs.Choice.{pick}
 use Rattle.exact.specs.Text.{text}
@@ -62,3 +62,9 @@ pub ended-line : (p : Progress) (line : List ℕ) → 1 ≤ length line → ende
 unfolding endedWith
 ended-line p [] h = absurd (omega arith)
 ended-line p (byte ∷ line) h = refl
+
+-- what is written lies within the buffer
+pub written-within : {old t new : List ℕ} {r : ℕ} → Written old t r new → r ≤ length new
+unfolding onto
+written-within {old} {t} {new} w =
+    omega (arith, w .count, ap length (w .bytes) ∙ length-append t (drop (length t) old))
