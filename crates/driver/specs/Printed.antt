@@ -10,10 +10,14 @@ use Rattle.book.specs.Calls.{opening, feeding, wanting, reportOf}
 use Rattle.driver.specs.declared.Progress.{Progress}
 use Rattle.driver.specs.Reading.{Reading, withLine, newline}
 
+-- the end of the input ends a line that has bytes
+unfoldable pub lastOf : List ℕ → List (List ℕ)
+lastOf [] = []
+lastOf (byte ∷ line) = (byte ∷ line) ∷ []
+
 -- the lines of an input of which `line` was read before: a newline ends a line, and at the very end begins no further one
 unfoldable pub linesFrom : List ℕ → List ℕ → List (List ℕ)
-linesFrom [] [] = []
-linesFrom (b ∷ line) [] = (b ∷ line) ∷ []
+linesFrom line [] = lastOf line
 linesFrom line (byte ∷ bytes) =
     pick (eqb byte newline) (line ∷ linesFrom [] bytes) (linesFrom (line ++ (byte ∷ [])) bytes)
 

@@ -8,7 +8,7 @@ ghost use Rattle.loan_charge.specs.CreditFactor.{builtInRates};
 ghost use Rattle.report.specs.Line.{Written};
 ghost use Rattle.book.specs.Calls.{Sound};
 ghost use Rattle.driver.specs.Reading.{atStart, after, withLine, kept, withBytes, readingOf, Underway, Running};
-ghost use Rattle.driver.specs.Printed.{printedFor, ended};
+ghost use Rattle.driver.specs.Printed.{printedFor, ended, printed};
 use book::Book;
 use line_forms::Header;
 
@@ -172,4 +172,16 @@ pub fn finish(
     }
     let last = end_line(p, exps, rates, &tail[0..held]);
     put_answer(last, out)
+}
+
+// Writes what is printed of a whole input.
+pub fn print_input(input: &[u8], out: &mut [u8]) -> usize
+    requires { ⌜ 512 ≤ length (now out) ⌝ }
+    ensures { λ r. ⌜ Written (now (out .entry)) (printed (now (input .entry))) r (now (out .exit)) ⌝ }
+{
+    let exps = exponential::table();
+    let rates = loan_charge::credit::rates();
+    let mut tail = [0u8; 241];
+    let run = step(start(), &mut tail, &exps, &rates, input);
+    finish(run, &tail, &exps, &rates, out)
 }
