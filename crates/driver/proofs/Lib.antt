@@ -1,0 +1,4 @@
+pub mod Lines
+pub mod Bytes
+pub mod Answers
+pub mod Law

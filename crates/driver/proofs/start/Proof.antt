@@ -1,0 +1,32 @@
+-- `driver::start` meets its contract. Assumes nothing.
+use mathlib.Core.Path.{_≡_, refl, sym, subst}
+use native.Mathlib.Omega.{arith}
+use borrow.Author.Needs.{needs}
+use Rattle.line_forms.specs.declared.Header.{Header}
+use Rattle.figures.specs.declared.Sums.{Sums}
+use Rattle.book.specs.declared.Book.{Book}
+use Rattle.book.specs.Calls.{zeroHeader, emptyBook, Sound}
+use Rattle.book.proofs.Feeding.{empty-sound}
+use Rattle.driver.specs.declared.Run.{Run}
+use Rattle.driver.specs.Reading.{atStart, Running}
+use Rattle.driver.proofs.start.Statement.{statement}
+use Rattle.driver.proofs.start.Tie as tie
+use Rattle.driver.proofs.start.Reads as reads
+use Rattle.driver.proofs.start.Lts as lts
+
+running : Running (record { progress = atStart; held = 0 })
+running =
+    record {
+      progress = record { sound = empty-sound zeroHeader (record { loans = omega arith; unscored = omega arith; held = omega arith }); number = omega arith };
+      held = omega arith;
+    }
+
+none-requires : tie.Need-none-requires
+none-requires c κs = search needs
+
+returns : tie.Need-returns
+returns c =
+    (λ i. record { progress = record { refusal = 0; number = 1; book = record { header = zeroHeader; sums = c .none .ensures i } }; held = 0 }, subst (λ (s : Sums). Running (record { progress = record { refusal = 0; number = 1; book = record { header = zeroHeader; sums = s } }; held = 0 })) (sym (c .none .ensures)) running)
+
+pub start-spec : {M : Type 1} → statement M
+start-spec = tie.close (tie.spec none-requires returns)
