@@ -1,20 +1,14 @@
 -- What a line adds is bounded, and every book that feeding gives is sound.
 -- Assumes nothing.
-use mathlib.Core.Path.{_≡_, refl, sym, _∙_, ap}
-use mathlib.Core.Bool.{Bool, true, false, _&&_, _||_}
-use mathlib.Core.List.{List}
-use Prim.Native.Nat.{ℕ, _+_, _-_, _*_, _/_, _%_, _^_, _≤_, _<_}
+use Prim.Native.Nat.{ℕ, _+_, _-_, _*_, _≤_}
 use native.Mathlib.Omega.{arith}
-use lib.Dec.{T, eqb, leb}
-use Rattle.exact.specs.Choice.{pick}
+use lib.Dec.{eqb}
 use Rattle.fixed_point.proofs.Laws.{bounded}
 use Rattle.fixed_point.specs.declared.Signed.{Signed}
-use Rattle.loan_charge.specs.Charge.{InRange}
 use Rattle.loan_charge.specs.declared.Score.{Score}
 use Rattle.loan_charge.specs.declared.Score.the-variants.{Scored, Unscored}
 use Rattle.loan_charge.proofs.ChargeLaws.{charge-range}
 use Rattle.line_forms.specs.declared.Loan.{Loan}
-use Rattle.line_forms.specs.declared.Policy.{Policy}
 use Rattle.line_forms.specs.declared.Class.{Class}
 use Rattle.line_forms.specs.declared.Class.the-variants.{Home, Multi}
 use Rattle.line_forms.specs.declared.Derivative.{Derivative}
@@ -26,9 +20,8 @@ use Rattle.line_forms.specs.declared.Line.the-variants.{Loan as LoanLine, Polic
 use Rattle.other_charges.specs.Charges.{provisionTenths, addOnThousandths}
 use Rattle.other_charges.specs.Parts.{assetParts, shareParts, derivativeParts, provisionParts}
 use Rattle.other_charges.proofs.ChargeLaws.{tenths-bounded, add-on-bounded}
-use Rattle.figures.specs.declared.Sums.{Sums}
-use Rattle.figures.specs.Sums.{Bounded, moneyOf}
-use Rattle.book.specs.Ranges.{LoanRanges, DerivativeRanges, AssetRanges, AmountRanges, Ranged}
+use Rattle.figures.specs.Sums.{Bounded}
+use Rattle.book.specs.Ranges.{LoanRanges, DerivativeRanges, AssetRanges, Ranged}
 use Rattle.book.specs.Terms.{Terms, factorFor}
 use Rattle.book.specs.Share.{unscoredCount, share, loanShare, loanNumbers, restShare, policyShare, derivativeShare, assetShare, amountShare}
 use Rattle.book.proofs.Near.{GoodTerms, chargeable}

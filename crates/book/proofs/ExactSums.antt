@@ -1,10 +1,10 @@
 -- The sums of rest and moved, in ten-millionths of a cent, are the exact ones; rounded up once they are the report's.
 -- Assumes nothing.
-use mathlib.Core.Path.{_≡_, refl, sym, _∙_, ap, ap₂}
+use mathlib.Core.Path.{_≡_, refl}
 use mathlib.Core.List.{List, [], _∷_, map}
-use Prim.Native.Nat.{ℕ, _+_, _-_, _*_, _/_, _^_, _≤_, _<_}
+use Prim.Native.Nat.{ℕ, _+_}
 use native.Mathlib.Omega.{arith}
-use Rattle.exact.specs.Fraction.{Fraction, Proper, quotient, whole, _⊕_, _≈_, ceiling}
+use Rattle.exact.specs.Fraction.{Fraction, whole, _⊕_, ceiling}
 use Rattle.exact.proofs.Fractions
 use Rattle.exact.proofs.Fractions.{Nonnegative}
 use Rattle.exact.proofs.Within.{ceiling-alike}

@@ -1,5 +1,6 @@
 pub mod BoundedShares
 pub mod Bounds
+pub mod Closings
 pub mod ExactSums
 pub mod Feeding
 pub mod Near

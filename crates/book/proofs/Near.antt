@@ -1,20 +1,18 @@
 -- The sums of the loans' numbers near the exact sums, from some order on with exp(-y) taken as 1 / E(m).
 -- Assumes nothing.
-use mathlib.Core.Path.{_≡_, refl, sym, _∙_, ap}
-use mathlib.Core.Bool.{Bool, true, false, _&&_}
-use mathlib.Core.List.{List, [], _∷_, _++_, map}
-use Prim.Native.Nat.{ℕ, _+_, _-_, _*_, _^_, _≤_, _<_}
+use mathlib.Core.Path.{_≡_, refl}
+use mathlib.Core.List.{List, [], _∷_, map}
+use Prim.Native.Nat.{ℕ, _+_, _*_, _^_, _≤_}
 use native.Mathlib.Omega.{arith}
-use lib.Dec.{T, eqb, leb}
-use Rattle.exact.specs.Fraction.{Fraction, Proper, quotient, whole, negated, _⊕_, _⊖_, _≼_, _≺_, _≈_}
-use Rattle.exact.specs.Exponential.{bracketHigh}
-use Rattle.exact.specs.Quantity.{Assignment, Eventually}
+use lib.Dec.{eqb}
+use Rattle.exact.specs.Fraction.{Fraction, quotient, whole, _⊕_, _≼_, _≈_}
+use Rattle.exact.specs.Quantity.{Eventually}
 use Rattle.exact.proofs.Fractions
 use Rattle.exact.proofs.Within.{Within, within-sum, within-alike, within-wider, within-same}
 use Rattle.exact.proofs.Quantities.{both, mapped, always}
 use Rattle.fixed_point.specs.declared.Signed.{Signed}
 use Rattle.loan_charge.specs.Computation.{Chargeable}
-use Rattle.loan_charge.specs.Charge.{NearExact, signedCents, tolerance}
+use Rattle.loan_charge.specs.Charge.{NearExact, signedCents}
 use Rattle.loan_charge.specs.declared.charge.LoanCharge.{LoanCharge}
 use Rattle.loan_charge.proofs.ChargeLaws.{charge-near}
 use Rattle.loan_charge.specs.declared.Score.{Score}
@@ -27,7 +25,7 @@ use Rattle.line_forms.specs.declared.Line.{Line}
 use Rattle.line_forms.specs.declared.Line.the-variants.{Loan as LoanLine, Policy as PolicyLine, Derivative as DerivativeLine, Asset as AssetLine, Amount as AmountLine, Refusal}
 use Rattle.line_forms.specs.Readings.{lineOf}
 use Rattle.figures.specs.declared.Sums.{Sums}
-use Rattle.figures.specs.Sums.{sumOf, plus, noSums, signedSum}
+use Rattle.figures.specs.Sums.{sumOf, plus, signedSum}
 use Rattle.book.specs.Terms.{Terms, factorFor}
 use Rattle.book.specs.Share.{share, loanShare, loanNumbers, policyShare, derivativeShare, assetShare, amountShare}
 use Rattle.book.specs.Exact.{totalOf, supplementOf, sumOver}

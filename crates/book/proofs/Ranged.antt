@@ -4,7 +4,6 @@ use mathlib.Core.Path.{_≡_, refl}
 use mathlib.Core.Bool.{Bool, true, false, _&&_}
 use mathlib.Core.List.{List}
 use Prim.Native.Nat.{ℕ, _≤_}
-use native.Mathlib.Omega.{arith}
 use lib.Dec.{T, leb, ltb, leb→le}
 use lib.ListN.{length}
 use borrow.Author.Tests.{ltb-false}
@@ -21,9 +20,8 @@ use Rattle.line_forms.specs.declared.Content.{Content}
 use Rattle.line_forms.specs.declared.Content.the-variants.{Header as header, Loan as loan, Policy as policy, Derivative as derivative, Asset as asset, Amount as amount, NoForm}
 use Rattle.line_forms.specs.declared.Line.{Line}
 use Rattle.line_forms.specs.declared.Line.the-variants.{Loan as LoanLine, Policy as PolicyLine, Derivative as DerivativeLine, Asset as AssetLine, Amount as AmountLine, Refusal}
-use Rattle.line_forms.specs.declared.HeaderLine.{HeaderLine}
 use Rattle.line_forms.specs.declared.HeaderLine.the-variants.{Header as HeaderRead, Refusal as HeaderRefusal}
-use Rattle.book.specs.Ranges.{LoanRanges, PolicyRanges, DerivativeRanges, AssetRanges, AmountRanges, Ranged, HeaderRanges, RangedHeader}
+use Rattle.book.specs.Ranges.{LoanRanges, PolicyRanges, DerivativeRanges, AssetRanges, AmountRanges, Ranged, RangedHeader}
 use Rattle.line_forms.specs.Contents.{headerInRange, scoreInRange, loanInRange, policyInRange, moneyInRange, derivativeInRange, assetInRange, amountInRange}
 use Rattle.line_forms.specs.Readings.{contentOf, lineFor, lineOf, headerFor, headerOf}
 

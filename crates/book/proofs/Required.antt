@@ -1,15 +1,10 @@
 -- The required amount of the accepted lines near their exact requirement. Assumes nothing.
-use mathlib.Core.Path.{_≡_, refl, sym, _∙_, ap}
-use mathlib.Core.List.{List, [], _∷_, _++_, List·Memᴰ}
-use mathlib.Core.Logic.{⊎-elim}
-use Prim.Native.Nat.{ℕ, _+_, _*_, _^_, _≤_}
-use native.Mathlib.Omega.{arith}
+use mathlib.Core.List.{List, [], _∷_}
+use Prim.Native.Nat.{ℕ, _*_, _≤_}
 use lib.Dec.{eqb}
-use Rattle.exact.specs.Fraction.{Fraction, Proper, quotient, whole, _⊕_, _≼_, _≺_, ceiling}
-use Rattle.exact.specs.Quantity.{Quantity, Eventually, Exponent}
+use Rattle.exact.specs.Quantity.{Eventually}
 use Rattle.exact.proofs.Quantities.{Exponents, mapped, no-exponents, appended-exponents}
-use Rattle.loan_charge.specs.declared.Score.{Score}
-use Rattle.loan_charge.specs.CreditFactor.{builtInRates, FactorInRange}
+use Rattle.loan_charge.specs.CreditFactor.{builtInRates}
 use Rattle.loan_charge.proofs.CreditLaws.{built-in, in-range}
 use Rattle.loan_charge.proofs.ChargeLaws.{total-exponents}
 use Rattle.line_forms.specs.Contents.{onAgedTable}
@@ -17,15 +12,14 @@ use Rattle.line_forms.specs.declared.Header.{Header}
 use Rattle.line_forms.specs.declared.Line.{Line}
 use Rattle.line_forms.specs.declared.Line.the-variants.{Loan as LoanLine, Policy as PolicyLine, Derivative as DerivativeLine, Asset as AssetLine, Amount as AmountLine, Refusal}
 use Rattle.line_forms.specs.Readings.{lineOf}
-use Rattle.figures.specs.declared.Sums.{Sums}
-use Rattle.figures.specs.Figures.{wholeCents, requiredOf, figuresOf}
+use Rattle.figures.specs.Figures.{requiredOf, figuresOf}
 use Rattle.book.specs.Terms.{Terms, termsWith, factorFor}
-use Rattle.book.specs.Exact.{totalOf, supplementOf, restOf, sumOver, exponentsOver, requirement}
+use Rattle.book.specs.Exact.{totalOf, restOf, sumOver, exponentsOver, requirement}
 use Rattle.book.specs.Accepted.{isLoan, countOf}
 use Rattle.book.specs.History.{sumsOf}
 use Rattle.book.proofs.Bounds.{Near, required-near}
 use Rattle.book.proofs.ExactSums.{rest-sum, rounded-is, parts-nonnegative}
-use Rattle.book.proofs.Near.{GoodTerms, Close, list-close, chargeable}
+use Rattle.book.proofs.Near.{GoodTerms, list-close, chargeable}
 use Rattle.book.specs.Ranges.{Ranged}
 use Rattle.book.proofs.Ranged.{ranged}
 

@@ -6,7 +6,6 @@ use mathlib.Core.List.{List, [], _∷_, _++_, map, map-append}
 use Prim.Native.Nat.{ℕ, _+_}
 use lib.Dec.{eqb}
 use Rattle.exact.specs.Choice.{pick}
-use Rattle.loan_charge.specs.CreditFactor.{builtInRates}
 use Rattle.line_forms.specs.declared.Policy.{Policy}
 use Rattle.line_forms.specs.declared.Class.{Class}
 use Rattle.line_forms.specs.declared.Class.the-variants.{Home, Multi}
@@ -18,14 +17,13 @@ use Rattle.line_forms.specs.declared.Line.the-variants.{Loan as LoanLine, Polic
 use Rattle.line_forms.specs.Readings.{lineOf}
 use Rattle.fixed_point.specs.declared.Signed.{Signed}
 use Rattle.figures.specs.declared.Sums.{Sums}
-use Rattle.figures.specs.Sums.{noSums, plus, sumOf}
+use Rattle.figures.specs.Sums.{plus, sumOf}
 use Rattle.figures.proofs.SumsLaws.{sum-append, plus-none}
 use Rattle.book.specs.declared.Book.{Book}
-use Rattle.book.specs.declared.Fed.{Fed}
 use Rattle.book.specs.Terms.{Terms, termsWith}
 use Rattle.book.specs.Share.{share, loanShare, policyShare, derivativeShare, assetShare, amountShare}
-use Rattle.book.specs.Accepted.{isLoan, isUnscored, isOther, countOf, refusalFor, refusalOf, accept}
-use Rattle.book.specs.Calls.{feedingLine, feeding, withLine, refusalIn}
+use Rattle.book.specs.Accepted.{isLoan, isUnscored, isOther, countOf, refusalOf, accept}
+use Rattle.book.specs.Calls.{feedingLine, feeding, refusalIn}
 use Rattle.book.specs.History.{sumsOf, bookOf}
 
 -- A line's share counts it.

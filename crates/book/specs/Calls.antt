@@ -11,6 +11,10 @@ use Rattle.line_forms.specs.declared.HeaderLine.{HeaderLine}
 use Rattle.line_forms.specs.declared.HeaderLine.the-variants.{Header as HeaderRead, Refusal as HeaderRefusal}
 use Rattle.line_forms.specs.declared.Line.{Line}
 use Rattle.line_forms.specs.Readings.{lineOf, headerOf}
+use Rattle.figures.specs.Figures.{figuresOf}
+use Rattle.report.specs.Line.{onto}
+use Rattle.book.specs.Report.{reportText}
+use Rattle.book.specs.declared.Closed.{Closed}
 use Rattle.figures.specs.declared.Sums.{Sums}
 use Rattle.figures.specs.Sums.{noSums, plus, sumOf, Bounded}
 use Rattle.book.specs.declared.Book.{Book}
@@ -72,3 +76,26 @@ pub record Sound (b : Book) : Type 0 where
   pub header-loans : b .header .loans ≤ 1000000
   pub header-unscored : b .header .unscored ≤ b .header .loans
   pub held : b .header .held ≤ 10000000000000
+
+-- 6 at closing: fewer loans taken than the header counts, or fewer without a score
+abbrev pub wanting : Header → (loans unscored : ℕ) → Bool
+wanting h loans unscored = ltb loans (h .loans) || ltb unscored (h .unscored)
+
+-- Closing tests 6, then 9: a report buffer under 512 bytes.
+abbrev pub closingRefusal : Header → (loans unscored size : ℕ) → ℕ
+closingRefusal h loans unscored size = pick (wanting h loans unscored) 6 (pick (ltb size 512) 9 0)
+
+-- the report's bytes
+abbrev pub reportOf : Book → List ℕ
+reportOf b = reportText (figuresOf (b .header .held) (b .sums))
+
+-- A closing answers its refusal, 0 for none, and the length of the report it wrote;
+unfoldable pub closing : Book → (size : ℕ) → Closed
+closing b size = pick (wanting (b .header) (b .sums .loans) (b .sums .unscored)) (record { refusal = 6; length = 0 })
+    (pick (ltb size 512) (record { refusal = 9; length = 0 }) (record { refusal = 0; length = length (reportOf b) }))
+
+-- it writes the report from the buffer's start, and the bytes after it stay; refused, it writes nothing.
+unfoldable pub closed : Book → List ℕ → List ℕ
+closed b buffer =
+    pick (wanting (b .header) (b .sums .loans) (b .sums .unscored)) buffer
+    (pick (ltb (length buffer) 512) buffer (onto buffer (reportOf b)))

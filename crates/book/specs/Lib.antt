@@ -3,6 +3,7 @@ pub mod Calls
 pub mod Exact
 pub mod History
 pub mod Ranges
+pub mod Report
 pub mod Requirement
 pub mod Share
 pub mod Terms

@@ -5,11 +5,13 @@ ghost use Rattle.loan_charge.specs.CreditFactor.{builtInRates};
 ghost use Rattle.figures.specs.Sums.{Bounded, InLimits, plus};
 ghost use mathlib.Core.Bool.{false};
 ghost use Rattle.book.specs.Accepted.{loanBeyond, otherBeyond};
-ghost use Rattle.book.specs.Calls.{zeroHeader, emptyBook, opening, added, feedingLine, feeding, Sound, CountsOne};
+ghost use Rattle.book.specs.Calls.{zeroHeader, emptyBook, opening, added, feedingLine, feeding, closing, closed, Sound, CountsOne};
+ghost use lib.ListN.{length};
 ghost use Rattle.book.specs.Ranges.{Ranged, LoanRanges};
 ghost use Rattle.book.specs.Share.{loanShare, unscoredCount};
 ghost use Rattle.book.specs.Terms.{termsWith};
 
+mod closing; // the report's lines
 mod shares; // what a line adds to the sums
 
 use figures::Sums;
@@ -35,6 +37,12 @@ pub struct Opened {
 pub struct Fed {
     pub refusal: u64,
     pub book: Book,
+}
+
+// The answer of closing: a refusal, 0 for none, and the length of the report written, 0 where refused.
+pub struct Closed {
+    pub refusal: u64,
+    pub length: usize,
 }
 
 // A book with no line taken.
@@ -170,4 +178,29 @@ pub fn feed(b: Book, line: &[u8]) -> Fed
     let exps = exponential::table();
     let rates = loan_charge::credit::rates();
     feed_with(b, &exps, &rates, line)
+}
+
+// A book is closed: its report is written to the lent buffer.
+pub fn close(b: Book, out: &mut [u8]) -> Closed
+    requires { ⌜ Sound b ⌝ }
+    ensures equation { λ r. ⌜ r ≡ closing b (length (now (out .entry))) ⌝ }
+    ensures bytes { λ r. ⌜ now (out .exit) ≡ closed b (now (out .entry)) ⌝ }
+{
+    let header = b.header;
+    let sums = b.sums;
+    if (sums.loans < header.loans) | (sums.unscored < header.unscored) {
+        return Closed {
+            refusal: 6,
+            length: 0,
+        };
+    }
+    if out.len() < 512 {
+        return Closed {
+            refusal: 9,
+            length: 0,
+        };
+    }
+    let figures = figures::compute(header.held, sums);
+    let length = closing::put_report(out, figures);
+    Closed { refusal: 0, length }
 }

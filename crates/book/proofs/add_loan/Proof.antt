@@ -2,37 +2,23 @@ use Rattle.book.specs.Accepted.{loanBeyond}
 use Rattle.book.specs.Share.{loanShare}
 use Rattle.book.specs.Terms.{termsWith}
 use Rattle.book.proofs.Feeding.{refused-is, taken-is, loan-asks}
-use mathlib.Core.Path.{_≡_, refl, sym, _∙_, ap}
-use Prim.Native.Nat.{ℕ, _+_, _-_, _*_, _≤_, _<_}
-use native.Mathlib.Omega.{arith}
-use lib.ListN.{length, take, drop, getD}
 use borrow.Author.Needs.{needs}
 use Rattle.book.proofs.add_loan.Statement.{statement}
 use Rattle.book.proofs.add_loan.Tie as tie
-use Rattle.book.proofs.add_loan.Reads as reads
-use Rattle.book.proofs.add_loan.Lts as lts
-use Rattle.book.proofs.loan_beyond.Reads as loan-beyond-reads
-use Rattle.book.proofs.shares.loan.Reads as loan-reads
-use Rattle.book.proofs.with_share.Reads as with-share-reads
 
--- src/lib.rt:120:8
 loan-beyond-requires : tie.Need-loan-beyond-requires
 loan-beyond-requires c κs = search needs
 
--- src/lib.rt:121:9
 returns : tie.Need-returns
 returns c = refused-is (loanBeyond (c .before .before .before .before .args .b .header) (c .before .before .before .before .args .b .sums .loans) (c .before .before .before .before .args .b .sums .unscored) (c .before .before .before .before .args .l .score)) 5 (c .before .before .before .before .args .b) (loanShare (termsWith (c .before .before .before .before .args .b .header)) (c .before .before .before .before .args .l)) (cc)
 
--- src/lib.rt:126:19
 loan-requires : tie.Need-loan-requires
 loan-requires c κs = search needs
 
--- src/lib.rt:126:5
 with-share-requires : tie.Need-with-share-requires
 with-share-requires c κs =
     rw (c .loan .ensures) (loan-asks (c .before .before .before .before .before .args .b) (c .before .before .before .before .before .args .l) (c .before .before .before .before .before .pre .0) (c .before .before .before .before .before .pre .1) (cc))
 
--- src/lib.rt:113:1
 returns-2 : tie.Need-returns-2
 returns-2 c =
     rw (c .with-share .ensures, c .before .loan .ensures) (taken-is (loanBeyond (c .before .before .before .before .before .before .args .b .header) (c .before .before .before .before .before .before .args .b .sums .loans) (c .before .before .before .before .before .before .args .b .sums .unscored) (c .before .before .before .before .before .before .args .l .score)) 5 (c .before .before .before .before .before .before .args .b) (loanShare (termsWith (c .before .before .before .before .before .before .args .b .header)) (c .before .before .before .before .before .before .args .l)) (cc))

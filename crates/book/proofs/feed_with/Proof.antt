@@ -5,38 +5,26 @@ use Rattle.book.specs.declared.Fed.{Fed}
 use Rattle.book.specs.Calls.{feeding, Sound}
 use Rattle.book.proofs.Feeding.{fed-sound, fed-refused}
 use Rattle.book.proofs.Ranged.{ranged}
-use mathlib.Core.Path.{_≡_, refl, sym, _∙_, ap}
-use Prim.Native.Nat.{ℕ, _+_, _-_, _*_, _≤_, _<_}
-use native.Mathlib.Omega.{arith}
-use lib.ListN.{length, take, drop, getD}
+use mathlib.Core.Path.{_≡_, sym}
 use borrow.Author.Needs.{needs}
 use Rattle.book.proofs.feed_with.Statement.{statement}
 use Rattle.book.proofs.feed_with.Tie as tie
-use Rattle.book.proofs.feed_with.Reads as reads
-use Rattle.book.proofs.feed_with.Lts as lts
-use Rattle.book.proofs.feed_line.Reads as feed-line-reads
-use Rattle.line_forms.proofs.read_line.Reads as read-line-reads
 
--- src/lib.rt:157:9
 read-line-requires : tie.Need-read-line-requires
 read-line-requires c κs = search needs
 
--- src/lib.rt:158:23
 enum-known-read : tie.Need-enum-known-read
 enum-known-read c = search needs
 
--- src/lib.rt:159:9
 feed-line-requires : tie.Need-feed-line-requires
 feed-line-requires c κs =
     (c .before .before .before .pre .0, rw (c .before .read-line .ensures) (ranged (denote.Ref.now (c .before .before .before .args .line))), c .before .before .before .pre .1, c .before .before .before .pre .2)
 
--- src/lib.rt:159:9
 returns : tie.Need-returns
 returns c =
     let e : c .feed-line .result ≡ feeding (c .before .before .before .before .args .b) (denote.Ref.now (c .before .before .before .before .args .line)) = cc in
     (e, subst (λ (f : Fed). Sound (f .book)) (sym e) (fed-sound (c .before .before .before .before .args .b) (lineOf (denote.Ref.now (c .before .before .before .before .args .line))) (c .before .before .before .before .pre .0) (ranged (denote.Ref.now (c .before .before .before .before .args .line)))))
 
--- src/lib.rt:152:1
 returns-2 : tie.Need-returns-2
 returns-2 c =
     let e : lineOf (denote.Ref.now (c .before .before .before .before .before .args .line)) ≡ Refusal (c .before .read .given .0 .0) = cc in

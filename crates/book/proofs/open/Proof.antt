@@ -4,51 +4,35 @@ use Rattle.book.specs.declared.Opened.{Opened}
 use Rattle.book.specs.Calls.{openingFor, opening, Sound}
 use Rattle.book.proofs.Feeding.{opening-sound}
 use Rattle.book.proofs.Ranged.{ranged-header}
-use mathlib.Core.Path.{_≡_, refl, sym, _∙_, ap}
-use Prim.Native.Nat.{ℕ, _+_, _-_, _*_, _≤_, _<_}
-use native.Mathlib.Omega.{arith}
-use lib.ListN.{length, take, drop, getD}
+use mathlib.Core.Path.{_≡_, sym}
 use borrow.Author.Needs.{needs}
 use Rattle.book.proofs.open.Statement.{statement}
 use Rattle.book.proofs.open.Tie as tie
-use Rattle.book.proofs.open.Reads as reads
-use Rattle.book.proofs.open.Lts as lts
-use Rattle.book.proofs.empty.Reads as empty-reads
-use Rattle.book.proofs.zero_header.Reads as zero-header-reads
-use Rattle.line_forms.proofs.read_header.Reads as read-header-reads
 
--- src/lib.rt:65:9
 read-header-requires : tie.Need-read-header-requires
 read-header-requires c κs = search needs
 
--- src/lib.rt:67:28
 enum-known-read : tie.Need-enum-known-read
 enum-known-read c = search needs
 
--- src/lib.rt:69:19
 empty-requires : tie.Need-empty-requires
 empty-requires c κs = search needs
 
--- src/lib.rt:71:29
 enum-known-read-2 : tie.Need-enum-known-read-2
 enum-known-read-2 c = search needs
 
--- src/lib.rt:73:25
 zero-header-requires : tie.Need-zero-header-requires
 zero-header-requires c κs = search needs
 
--- src/lib.rt:73:19
 empty-requires-2 : tie.Need-empty-requires-2
 empty-requires-2 c κs = search needs
 
--- src/lib.rt:61:1
 returns : tie.Need-returns
 unfolding openingFor
 returns c =
     let e : record { refusal = 0; book = c .empty .result } ≡ opening (denote.Ref.now (c .before .before .before .before .before .before .args .line)) = cc in
     (e, subst (λ (o : Opened). Sound (o .book)) (sym e) (opening-sound (headerOf (denote.Ref.now (c .before .before .before .before .before .before .args .line))) (ranged-header (denote.Ref.now (c .before .before .before .before .before .before .args .line)))))
 
--- src/lib.rt:61:1
 returns-2 : tie.Need-returns-2
 unfolding openingFor
 returns-2 c =
