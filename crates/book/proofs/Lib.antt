@@ -1,6 +1,7 @@
 pub mod BoundedShares
 pub mod Bounds
 pub mod Closings
+pub mod Demand3
 pub mod ExactSums
 pub mod Feeding
 pub mod Near

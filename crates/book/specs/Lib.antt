@@ -1,5 +1,6 @@
 pub mod Accepted
 pub mod Calls
+pub mod Demand3
 pub mod Exact
 pub mod History
 pub mod Ranges
