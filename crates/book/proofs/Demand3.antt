@@ -1,18 +1,18 @@
 -- Demand 3 over the definitions, with no hypothesis. Assumes nothing.
-use mathlib.Core.Path.{_≡_, refl, sym, _∙_, ap, ap₂, subst}
-use mathlib.Core.Bool.{Bool, true, false, _||_}
+use mathlib.Core.Path.{_≡_, refl, sym, _∙_, ap, ap₂}
+use mathlib.Core.Bool.{Bool, true, false}
 use mathlib.Core.List.{List, [], _∷_, _++_, map, append-assoc, List·Permᴰ, List·Permᴰ·nil, List·Permᴰ·cons, List·Permᴰ·swap, List·Permᴰ·trans}
 use mathlib.Core.Logic.{_↔_}
-use Prim.Native.Nat.{ℕ, _+_, _-_, _*_, _≤_, _<_}
+use Prim.Native.Nat.{ℕ}
 use native.Mathlib.Omega.{arith}
-use lib.Dec.{T, eqb, ltb, eqb→eq}
+use lib.Dec.{eqb, ltb, eqb→eq}
 use lib.ListN.{length, take, drop, length-append}
 use lib.Seq.{take-at}
 use borrow.Author.Tests.{eq-eqb}
 use Rattle.book.specs.declared.Closed.{Closed}
 use Rattle.exact.specs.Choice.{pick}
-use Rattle.exact.specs.Fraction.{Fraction, Proper, quotient, whole, ceiling, _⊕_, _≼_, _≺_}
-use Rattle.exact.specs.Quantity.{Quantity, Takes, Eventually}
+use Rattle.exact.specs.Fraction.{whole, _⊕_, _≼_, _≺_}
+use Rattle.exact.specs.Quantity.{Eventually}
 use Rattle.exact.proofs.Quantities.{takes, mapped, some-allowed}
 use Rattle.line_forms.specs.declared.Header.{Header}
 use Rattle.line_forms.specs.declared.HeaderLine.{HeaderLine}
@@ -21,14 +21,14 @@ use Rattle.line_forms.specs.Readings.{headerOf}
 use Rattle.figures.specs.declared.Figures.{Figures}
 use Rattle.figures.specs.declared.Sums.{Sums}
 use Rattle.figures.specs.Sums.{sumOf}
-use Rattle.figures.specs.Figures.{figuresFrom, figuresOf, wholeCents}
+use Rattle.figures.specs.Figures.{figuresOf}
 use Rattle.report.specs.Line.{onto}
 use Rattle.book.specs.declared.Book.{Book}
 use Rattle.book.specs.declared.Fed.{Fed}
 use Rattle.book.specs.Terms.{Terms, termsWith}
-use Rattle.book.specs.Accepted.{isLoan, isUnscored, countOf, refusalOf, accept}
-use Rattle.book.specs.Exact.{restOf, movedOf, sumOver, requirement}
-use Rattle.book.specs.Calls.{openingFor, opening, feeding, wanting, closing, closed, closingRefusal, reportOf}
+use Rattle.book.specs.Accepted.{isLoan, countOf, refusalOf, accept}
+use Rattle.book.specs.Exact.{requirement}
+use Rattle.book.specs.Calls.{openingFor, opening, wanting, closing, closed, closingRefusal, reportOf}
 use Rattle.book.specs.History.{History, opened, fed, headerIn, along, termsOf, acceptedOf, standing, sumsOf, bookOf}
 use Rattle.book.specs.Share.{share}
 use Rattle.line_forms.specs.Readings.{lineOf}
@@ -49,7 +49,7 @@ terms-stay : (past : History) (s : List ℕ) → termsOf (fed past s) ≡ termsO
 unfolding termsOf
 terms-stay past s = refl
 
-one-more : (past : History) (h : Header) → termsOf past ≡ termsWith h → (s : List ℕ) → accept h (record { kept = standing past }) s .kept ≡ standing (fed past s)
+pub one-more : (past : History) (h : Header) → termsOf past ≡ termsWith h → (s : List ℕ) → accept h (record { kept = standing past }) s .kept ≡ standing (fed past s)
 unfolding acceptedOf
 one-more past h e s = ap (λ (t : Terms). accept (t .header) (acceptedOf past) s .kept) (sym e)
 
@@ -67,7 +67,7 @@ terms-along past [] = refl
 terms-along past (s ∷ lines) = terms-along (fed past s) lines ∙ terms-stay past s
 
 -- the book just opened has no line taken
-opened-empty : (header : List ℕ) → opening header .book ≡ bookOf (termsWith (headerIn (headerOf header))) []
+pub opened-empty : (header : List ℕ) → opening header .book ≡ bookOf (termsWith (headerIn (headerOf header))) []
 unfolding openingFor headerIn sumsOf sumOf map
 opened-empty header = go (headerOf header)
   where
@@ -79,7 +79,7 @@ terms-opened : (header : List ℕ) → termsOf (opened header) ≡ termsWith (he
 unfolding termsOf
 terms-opened header = refl
 
-none-standing : (header : List ℕ) → standing (opened header) ≡ []
+pub none-standing : (header : List ℕ) → standing (opened header) ≡ []
 unfolding acceptedOf
 none-standing header = refl
 
@@ -224,8 +224,7 @@ pub same-reports : (t : Terms) {kept others : List (List ℕ)} → List·Permᴰ
 same-reports t {kept} {others} p x y e f =
     let w = closing-written (bookOf t kept) x e in
     let v = closing-written (bookOf t others) y f in
-    let r : reportOf (bookOf t kept) ≡ reportOf (bookOf t others) = ap (λ (s : Sums). reportOf (record { header = t .header; sums = s })) (sums-permuted t p) in
-    (
+    let r : reportOf (bookOf t kept) ≡ reportOf (bookOf t others) = ap (λ (s : Sums). reportOf (record { header = t .header; sums = s })) (sums-permuted t p) in (
       w .1 ∙ ap length r ∙ sym (v .1),
       ap₂ take (w .1) (w .0) ∙ taken-text x (reportOf (bookOf t kept)) ∙ r ∙ sym (ap₂ take (v .1) (v .0) ∙ taken-text y (reportOf (bookOf t others))),
     )

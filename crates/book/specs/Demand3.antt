@@ -85,4 +85,4 @@ pub record Demand3 (header : List ℕ) (lines : List (List ℕ)) : Type 0 where
   pub measured : Measured (termsOf (opened header)) (standing (along (opened header) lines))
   -- the same lines taken, each as often, in whatever order: reports alike byte for byte
   pub alike : (others : List (List ℕ)) → List·Permᴰ (standing (along (opened header) lines)) (standing (along (opened header) others)) →
-    SameReports (afterLines (opening header .book) lines) (afterLines (opening header .book) others)
+      SameReports (afterLines (opening header .book) lines) (afterLines (opening header .book) others)

@@ -1,6 +1,8 @@
 pub mod Accepted
 pub mod Calls
+pub mod Demand2
 pub mod Demand3
+pub mod Examples
 pub mod Exact
 pub mod History
 pub mod Ranges
