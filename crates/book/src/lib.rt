@@ -1,6 +1,6 @@
 // Opening, feeding and closing a book (document 01, "A book, line by line").
 ghost use mathlib.Core.Path.{_≡_};
-ghost use Rattle.exponential.specs.Table.{entries};
+ghost use Rattle.loan_charge.specs.Tables.{exponentials};
 ghost use Rattle.loan_charge.specs.CreditFactor.{builtInRates};
 ghost use Rattle.figures.specs.Sums.{Bounded, InLimits, plus};
 ghost use mathlib.Core.Bool.{false};
@@ -119,7 +119,7 @@ fn loan_beyond(h: Header, sums: Sums, score: Score) -> bool
 }
 
 fn add_loan(b: Book, exps: &[u64; 1537], rates: &[u64; 66], l: Loan) -> Fed
-    requires { ⌜ Sound b × LoanRanges l × (now exps ≡ entries) × (now rates ≡ builtInRates) ⌝ }
+    requires { ⌜ Sound b × LoanRanges l × (now exps ≡ exponentials) × (now rates ≡ builtInRates) ⌝ }
     ensures { λ r. ⌜ r ≡ added (loanBeyond (b .header) (b .sums .loans) (b .sums .unscored) (l .score)) 5 b (loanShare (termsWith (b .header)) l) ⌝ }
 {
     let header = b.header;
@@ -136,7 +136,7 @@ fn add_loan(b: Book, exps: &[u64; 1537], rates: &[u64; 66], l: Loan) -> Fed
 
 // A line that was read.
 fn feed_line(b: Book, exps: &[u64; 1537], rates: &[u64; 66], line: Line) -> Fed
-    requires { ⌜ Sound b × Ranged line × (now exps ≡ entries) × (now rates ≡ builtInRates) ⌝ }
+    requires { ⌜ Sound b × Ranged line × (now exps ≡ exponentials) × (now rates ≡ builtInRates) ⌝ }
     ensures { λ r. ⌜ r ≡ feedingLine b line ⌝ }
 {
     match line {
@@ -158,7 +158,7 @@ fn feed_line(b: Book, exps: &[u64; 1537], rates: &[u64; 66], line: Line) -> Fed
 
 // A line is fed to a book, with both tables lent: for loops, since a constant array would be stored whole at every use.
 pub fn feed_with(b: Book, exps: &[u64; 1537], rates: &[u64; 66], line: &[u8]) -> Fed
-    requires { ⌜ Sound b × (now exps ≡ entries) × (now rates ≡ builtInRates) ⌝ }
+    requires { ⌜ Sound b × (now exps ≡ exponentials) × (now rates ≡ builtInRates) ⌝ }
     ensures equation { λ r. ⌜ r ≡ feeding b (now (line .entry)) ⌝ }
     ensures sound { λ r. ⌜ Sound (r .book) ⌝ }
 {
@@ -175,7 +175,7 @@ pub fn feed(b: Book, line: &[u8]) -> Fed
     ensures equation { λ r. ⌜ r ≡ feeding b (now (line .entry)) ⌝ }
     ensures sound { λ r. ⌜ Sound (r .book) ⌝ }
 {
-    let exps = exponential::table();
+    let exps = loan_charge::charge::table();
     let rates = loan_charge::credit::rates();
     feed_with(b, &exps, &rates, line)
 }

@@ -1,7 +1,7 @@
 // What a line adds to the sums of its book, one function for each kind.
 ghost use mathlib.Core.Path.{_≡_};
 ghost use Prim.Native.Nat.{_≤_, _-_};
-ghost use Rattle.exponential.specs.Table.{entries};
+ghost use Rattle.loan_charge.specs.Tables.{exponentials};
 ghost use Rattle.loan_charge.specs.CreditFactor.{builtInRates};
 ghost use Rattle.figures.specs.Sums.{zeroMoney, zeroSigned};
 ghost use Rattle.book.specs.Ranges.{LoanRanges, DerivativeRanges, AssetRanges};
@@ -161,7 +161,7 @@ fn factor(h: Header, score: Score, rates: &[u64; 66]) -> u64
 }
 
 pub fn loan(h: Header, l: Loan, exps: &[u64; 1537], rates: &[u64; 66]) -> Sums
-    requires { ⌜ LoanRanges l × (now exps ≡ entries) × (now rates ≡ builtInRates) ⌝ }
+    requires { ⌜ LoanRanges l × (now exps ≡ exponentials) × (now rates ≡ builtInRates) ⌝ }
     ensures { λ r. ⌜ r ≡ loanShare (termsWith h) l ⌝ }
 {
     let score = l.score;

@@ -3,3 +3,4 @@ pub mod Coefficients
 pub mod Computation
 pub mod CreditFactor
 pub mod Integers
+pub mod Tables

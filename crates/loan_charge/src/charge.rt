@@ -3,6 +3,7 @@ ghost use mathlib.Core.Path.{_≡_};
 ghost use Prim.Native.Nat.{_+_, _*_, _/_, _^_, _<_, _≤_, min};
 ghost use mathlib.Core.Bool.{true, false};
 ghost use Rattle.exponential.specs.Table.{entries};
+ghost use Rattle.loan_charge.specs.Tables.{exponentials};
 ghost use Rattle.fixed_point.specs.Quotient.{scaledProduct};
 ghost use Rattle.loan_charge.specs.Computation.{unit, scaledValue, distance, deviations, exponent, height, heights, Usable, weighted, factor, rate, sum, times, signed, roundedUp, roundedDown, baseUnits, rateUnits, chargeFrom, chargeOf, Chargeable};
 ghost use Rattle.loan_charge.specs.Integers.{Months};
@@ -262,6 +263,13 @@ fn without_supplement(base: Signed) -> LoanCharge
         total: rounded_up(base, Signed { plus: 0, minus: 0 }),
         supplement: Signed { plus: 0, minus: 0 },
     }
+}
+
+// The exponential's table, to be made once and lent to `charge`.
+pub fn table() -> [u64; 1537]
+    ensures { λ r. ⌜ r ≡ exponentials ⌝ }
+{
+    exponential::table()
 }
 
 // A loan's two numbers, for value over balance p / q and m in 10^-17.

@@ -1,0 +1,7 @@
+-- The exponential's table, handed on: layers above lend it to the charge and know no more of it.
+use Prim.Native.Nat.{ℕ}
+use mathlib.Core.List.{List}
+use Rattle.exponential.specs.Table.{entries}
+
+abbrev pub exponentials : List ℕ
+exponentials = entries
