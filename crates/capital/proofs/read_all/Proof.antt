@@ -1,17 +1,11 @@
 use Rattle.exponential.specs.Table.{entries}
 use Rattle.loan_charge.specs.CreditFactor.{builtInRates}
 use Rattle.driver.specs.Reading.{Running}
-use mathlib.Core.Path.{_≡_, refl, sym, _∙_, ap}
-use Prim.Native.Nat.{ℕ, _+_, _-_, _*_, _≤_, _<_}
-use native.Mathlib.Omega.{arith}
-use lib.ListN.{length, take, drop, getD}
+use mathlib.Core.Path.{_≡_}
+use lib.ListN.{length}
 use borrow.Author.Needs.{needs}
 use Rattle.capital.proofs.read_all.Statement.{statement}
 use Rattle.capital.proofs.read_all.Tie as tie
-use Rattle.capital.proofs.read_all.Reads as reads
-use Rattle.capital.proofs.read_all.Lts as lts
-use Rattle.capital.proofs.read_once.Reads as read-once-reads
-use Rattle.driver.proofs.start.Reads as start-reads
 
 abbrev Inv-loop : tie.InvT-loop
 Inv-loop tail₀ exps rates buf₀ run₀ turns₀ tail buf run turns = Running run × (exps ≡ entries) × (rates ≡ builtInRates) × (length tail ≡ 241) × (length buf ≡ length buf₀)
@@ -19,51 +13,39 @@ Inv-loop tail₀ exps rates buf₀ run₀ turns₀ tail buf run turns = Running 
 abbrev μ-loop : tie.MeasureT-loop
 μ-loop tail₀ exps rates buf₀ run₀ turns₀ tail buf run turns = turns
 
--- src/main.rt:50:9
 start-requires : tie.Need-start-requires Inv-loop μ-loop
 start-requires c κs = search needs
 
--- src/main.rt:52:5
 loop-holds : tie.Need-loop-holds Inv-loop μ-loop
 loop-holds c = search needs
 
--- src/main.rt:53:13
 read-once-requires : tie.Need-read-once-requires Inv-loop μ-loop
 read-once-requires c κs = search needs
 
--- src/main.rt:55:13
 same-length : tie.Need-same-length Inv-loop μ-loop
 same-length c = search needs
 
--- src/main.rt:55:13
 same-length-2 : tie.Need-same-length-2 Inv-loop μ-loop
 same-length-2 c = search needs
 
--- src/main.rt:55:13
 returns : tie.Need-returns Inv-loop μ-loop
 returns c = search needs
 
--- src/main.rt:58:17
 sub-turns : tie.Need-sub-turns Inv-loop μ-loop
 sub-turns c = search needs
 
--- src/main.rt:52:5
 loop-less : tie.Need-loop-less Inv-loop μ-loop
 loop-less c = search needs
 
--- src/main.rt:52:5
 loop-again : tie.Need-loop-again Inv-loop μ-loop
 loop-again c = search needs
 
--- src/main.rt:46:1
 same-length-3 : tie.Need-same-length-3 Inv-loop μ-loop
 same-length-3 c = search needs
 
--- src/main.rt:46:1
 same-length-4 : tie.Need-same-length-4 Inv-loop μ-loop
 same-length-4 c = search needs
 
--- src/main.rt:46:1
 returns-2 : tie.Need-returns-2 Inv-loop μ-loop
 returns-2 c = search needs
 

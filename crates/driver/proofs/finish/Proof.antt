@@ -7,56 +7,41 @@ use Rattle.report.specs.Line.{Written}
 use Rattle.driver.proofs.Answers.{ended-line}
 use Rattle.driver.specs.Printed.{endedWith}
 use lib.Seq.{length-take-le}
-use mathlib.Core.Path.{_≡_, refl, sym, _∙_, ap}
-use Prim.Native.Nat.{ℕ, _+_, _-_, _*_, _≤_, _<_}
+use mathlib.Core.Path.{_≡_}
 use native.Mathlib.Omega.{arith}
-use lib.ListN.{length, take, drop, getD}
+use lib.ListN.{length, take}
 use borrow.Author.Needs.{needs}
 use Rattle.driver.proofs.finish.Statement.{statement}
 use Rattle.driver.proofs.finish.Tie as tie
-use Rattle.driver.proofs.finish.Reads as reads
-use Rattle.driver.proofs.finish.Lts as lts
-use Rattle.driver.proofs.end_line.Reads as end-line-reads
-use Rattle.driver.proofs.put_answer.Reads as put-answer-reads
 
--- src/lib.rt:164:9
 put-answer-requires : tie.Need-put-answer-requires
 put-answer-requires c κs = search needs
 
--- src/lib.rt:164:9
 same-length : tie.Need-same-length
 same-length c = search needs
 
--- src/lib.rt:164:9
 returns : tie.Need-returns
 unfolding endedWith
 returns c = let e : c .before .before .before .before .before .before .before .before .args .run .held ≡ 0 = c .before .before .before .before .if1 .taken in rw e (c .before .before .put-answer .ensures)
 
--- src/lib.rt:166:41
 sub-end-line : tie.Need-sub-end-line
 sub-end-line c = search needs
 
--- src/lib.rt:166:41
 part-end-line-start : tie.Need-part-end-line-start
 part-end-line-start c = search needs
 
--- src/lib.rt:166:41
 part-end-line-end : tie.Need-part-end-line-end
 part-end-line-end c = search needs
 
--- src/lib.rt:166:9
 end-line-requires : tie.Need-end-line-requires
 end-line-requires c κs = search needs
 
--- src/lib.rt:167:5
 put-answer-requires-2 : tie.Need-put-answer-requires-2
 put-answer-requires-2 c κs = search needs
 
--- src/lib.rt:151:1
 same-length-2 : tie.Need-same-length-2
 same-length-2 c = search needs
 
--- src/lib.rt:151:1
 returns-2 : tie.Need-returns-2
 returns-2 c =
     let n : length (take (c .before .before .before .before .before .before .before .before .before .before .args .run .held) (denote.Ref.now (c .before .before .before .before .before .before .before .before .before .before .args .tail))) ≡ c .before .before .before .before .before .before .before .before .before .before .args .run .held = length-take-le (c .before .before .before .before .before .before .before .before .before .before .args .run .held) (denote.Ref.now (c .before .before .before .before .before .before .before .before .before .before .args .tail)) (omega arith) in

@@ -1,66 +1,49 @@
 use Rattle.driver.proofs.Answers.{refusal-room, printed-refused, printed-empty, printed-end, closing-refused, closing-written}
 use Rattle.driver.specs.Printed.{printedAtEnd}
 use Rattle.report.specs.Line.{refusalLine}
-use mathlib.Core.List.{List}
-use mathlib.Core.Path.{_≡_, refl, sym, _∙_, ap}
-use Prim.Native.Nat.{ℕ, _+_, _-_, _*_, _≤_, _<_}
+use mathlib.Core.Path.{_≡_}
+use Prim.Native.Nat.{ℕ}
 use native.Mathlib.Omega.{arith}
-use lib.ListN.{length, take, drop, getD}
+use lib.ListN.{length}
 use borrow.Author.Needs.{needs}
 use Rattle.driver.proofs.put_answer.Statement.{statement}
 use Rattle.driver.proofs.put_answer.Tie as tie
-use Rattle.driver.proofs.put_answer.Reads as reads
-use Rattle.driver.proofs.put_answer.Lts as lts
-use Rattle.book.proofs.close.Reads as close-reads
-use Rattle.report.proofs.put_refusal.Reads as put-refusal-reads
 
--- src/lib.rt:137:9
 put-refusal-requires : tie.Need-put-refusal-requires
 put-refusal-requires c κs = refusal-room (c .before .before .before .args .p .refusal) (c .before .before .before .args .p .number) (length (denote.Ref.now (c .before .before .before .args .out))) (omega arith) (omega arith) (omega arith)
 
--- src/lib.rt:137:9
 same-length : tie.Need-same-length
 same-length c = search needs
 
--- src/lib.rt:137:9
 returns : tie.Need-returns
 returns c = rw (printed-refused (c .before .before .before .before .before .before .args .p) (c .before .before .before .before .if1 .taken)) (c .before .before .put-refusal .ensures)
 
--- src/lib.rt:140:9
 put-refusal-requires-2 : tie.Need-put-refusal-requires-2
 put-refusal-requires-2 c κs = refusal-room 2 1 (length (denote.Ref.now (c .before .before .before .before .args .out))) (omega arith) (omega arith) (omega arith)
 
--- src/lib.rt:140:9
 same-length-2 : tie.Need-same-length-2
 same-length-2 c = search needs
 
--- src/lib.rt:140:9
 returns-2 : tie.Need-returns-2
 returns-2 c = rw (printed-empty (c .before .before .before .before .before .before .before .args .p) (c .before .before .before .before .before .if1 .left) (c .before .before .before .before .if2 .taken)) (c .before .before .put-refusal2 .ensures)
 
--- src/lib.rt:143:9
 close-requires : tie.Need-close-requires
 close-requires c κs = search needs
 
--- src/lib.rt:145:9
 put-refusal-requires-3 : tie.Need-put-refusal-requires-3
 put-refusal-requires-3 c κs = refusal-room 6 (c .before .before .before .before .before .before .before .before .before .before .before .args .p .number) _ (omega arith) (omega arith) (search needs)
 
--- src/lib.rt:145:9
 same-length-3 : tie.Need-same-length-3
 same-length-3 c = search needs
 
--- src/lib.rt:145:9
 returns-3 : tie.Need-returns-3
 returns-3 c =
     let k : (c .before .before .before .before .before .before .before .before .close .last .1 .0 ≡ denote.Ref.now (c .before .before .before .before .before .before .before .before .before .before .before .before .before .before .args .out)) × ((n : ℕ) → printedAtEnd (c .before .before .before .before .before .before .before .before .before .before .before .before .before .before .args .p .book) n ≡ refusalLine 6 n) = closing-refused (c .before .before .before .before .before .before .before .before .before .before .before .before .before .before .args .p .book) (denote.Ref.now (c .before .before .before .before .before .before .before .before .before .before .before .before .before .before .args .out)) (omega arith) (c .before .before .before .before .before .before .before .before .close .ensures .0) (c .before .before .before .before .before .before .before .before .close .ensures .1) (c .before .before .before .before .if3 .taken) in
     rw (printed-end (c .before .before .before .before .before .before .before .before .before .before .before .before .before .before .args .p) (c .before .before .before .before .before .before .before .before .before .before .before .before .if1 .left) (c .before .before .before .before .before .before .before .before .before .before .before .if2 .left), k .1 (c .before .before .before .before .before .before .before .before .before .before .before .before .before .before .args .p .number), ← k .0) (c .before .before .put-refusal3 .ensures)
 
--- src/lib.rt:130:1
 same-length-4 : tie.Need-same-length-4
 same-length-4 c = search needs
 
--- src/lib.rt:130:1
 returns-4 : tie.Need-returns-4
 returns-4 c = rw (printed-end (c .before .before .before .before .before .before .before .before .before .before .args .p) (c .before .before .before .before .before .before .before .before .if1 .left) (c .before .before .before .before .before .before .before .if2 .left)) (closing-written (c .before .before .before .before .before .before .before .before .before .before .args .p .book) (denote.Ref.now (c .before .before .before .before .before .before .before .before .before .before .args .out)) (omega arith) (c .before .before .before .before .close .ensures .0) (c .before .before .before .before .close .ensures .1) (c .if3 .left) (c .before .before .before .before .before .before .before .before .before .before .args .p .number))
 

@@ -1,18 +1,13 @@
 -- `driver::start` meets its contract. Assumes nothing.
-use mathlib.Core.Path.{_≡_, refl, sym, subst}
+use mathlib.Core.Path.{sym, subst}
 use native.Mathlib.Omega.{arith}
 use borrow.Author.Needs.{needs}
-use Rattle.line_forms.specs.declared.Header.{Header}
 use Rattle.figures.specs.declared.Sums.{Sums}
-use Rattle.book.specs.declared.Book.{Book}
-use Rattle.book.specs.Calls.{zeroHeader, emptyBook, Sound}
+use Rattle.book.specs.Calls.{zeroHeader}
 use Rattle.book.proofs.Feeding.{empty-sound}
-use Rattle.driver.specs.declared.Run.{Run}
 use Rattle.driver.specs.Reading.{atStart, Running}
 use Rattle.driver.proofs.start.Statement.{statement}
 use Rattle.driver.proofs.start.Tie as tie
-use Rattle.driver.proofs.start.Reads as reads
-use Rattle.driver.proofs.start.Lts as lts
 
 running : Running (record { progress = atStart; held = 0 })
 running =

@@ -9,17 +9,13 @@ use Rattle.exponential.specs.Table.{entries}
 use Rattle.loan_charge.specs.CreditFactor.{builtInRates}
 use Rattle.driver.specs.Reading.{withBytes, Underway}
 use Rattle.driver.proofs.Bytes.{bytes-next, at-newline, at-other}
-use mathlib.Core.Path.{_≡_, refl, sym, _∙_, ap}
-use Prim.Native.Nat.{ℕ, _+_, _-_, _*_, _≤_, _<_}
+use mathlib.Core.Path.{_≡_, sym, _∙_, ap}
+use Prim.Native.Nat.{ℕ, _-_, _≤_}
 use native.Mathlib.Omega.{arith}
-use lib.ListN.{length, take, drop, getD}
+use lib.ListN.{length, take, getD}
 use borrow.Author.Needs.{needs}
 use Rattle.driver.proofs.step.Statement.{statement}
 use Rattle.driver.proofs.step.Tie as tie
-use Rattle.driver.proofs.step.Reads as reads
-use Rattle.driver.proofs.step.Lts as lts
-use Rattle.driver.proofs.end_line.Reads as end-line-reads
-use Rattle.driver.proofs.keep.Reads as keep-reads
 
 abbrev Inv-loop : tie.InvT-loop
 Inv-loop tail₀ exps rates chunk p₀ held₀ i₀ tail p held i =
@@ -28,44 +24,34 @@ Inv-loop tail₀ exps rates chunk p₀ held₀ i₀ tail p held i =
 abbrev μ-loop : tie.MeasureT-loop
 μ-loop tail₀ exps rates chunk p₀ held₀ i₀ tail p held i = length chunk - i
 
--- src/lib.rt:113:5
 loop-holds : tie.Need-loop-holds Inv-loop μ-loop
 unfolding withBytes
 loop-holds c = search needs
 
--- src/lib.rt:114:20
 shared-slice-read-byte : tie.Need-shared-slice-read-byte Inv-loop μ-loop
 shared-slice-read-byte c = search needs
 
--- src/lib.rt:116:42
 sub-end-line : tie.Need-sub-end-line Inv-loop μ-loop
 sub-end-line c = search needs
 
--- src/lib.rt:116:42
 part-end-line-start : tie.Need-part-end-line-start Inv-loop μ-loop
 part-end-line-start c = search needs
 
--- src/lib.rt:116:42
 part-end-line-end : tie.Need-part-end-line-end Inv-loop μ-loop
 part-end-line-end c = search needs
 
--- src/lib.rt:116:13
 end-line-requires : tie.Need-end-line-requires Inv-loop μ-loop
 end-line-requires c κs = search needs
 
--- src/lib.rt:119:13
 keep-requires : tie.Need-keep-requires Inv-loop μ-loop
 keep-requires c κs = search needs
 
--- src/lib.rt:121:9
 add-i : tie.Need-add-i Inv-loop μ-loop
 add-i c = search needs
 
--- src/lib.rt:113:5
 loop-less : tie.Need-loop-less Inv-loop μ-loop
 loop-less c = search needs
 
--- src/lib.rt:113:5
 loop-again : tie.Need-loop-again Inv-loop μ-loop
 loop-again c =
     rw (bytes-next (record { progress = c .before .before .before .before .before .before .before .args .run .progress; tail = take (c .before .before .before .before .before .before .before .args .run .held) (c .before .before .before .before .before .before .before .args .tail .now) }) (c .before .before .before .before .before .before .before .args .chunk .now) (c .before .before .before .loop .i) (omega arith))
@@ -85,11 +71,9 @@ loop-again c =
     (at-other (withBytes (record { progress = c .before .before .before .before .before .before .before .args .run .progress; tail = take (c .before .before .before .before .before .before .before .args .run .held) (c .before .before .before .before .before .before .before .args .tail .now) }) (take (c .before .before .before .loop .i) (c .before .before .before .before .before .before .before .args .chunk .now))) (c .before .before .before .loop .p) (take (c .before .before .before .loop .held) (c .before .before .before .loop .tail)) (getD (c .before .before .before .before .before .before .before .args .chunk .now) (c .before .before .before .loop .i) 0) (c .before .before .before .loop .inv .0) (w .0 .left) e k, subst (λ (p : Progress). Underway p) (sym e) (c .before .before .before .loop .inv .1), search needs, search needs, search needs, search needs, search needs))
     (c .if1 .came))
 
--- src/lib.rt:99:1
 same-length : tie.Need-same-length Inv-loop μ-loop
 same-length c = search needs
 
--- src/lib.rt:99:1
 returns : tie.Need-returns Inv-loop μ-loop
 returns c =
     let e : take (c .before .loop .i) (c .before .before .before .before .before .args .chunk .now) ≡ c .before .before .before .before .before .args .chunk .now = take-all (c .before .loop .i) (c .before .before .before .before .before .args .chunk .now) (omega arith) in
