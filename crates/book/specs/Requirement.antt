@@ -6,7 +6,7 @@ use Rattle.exact.specs.Fraction.{Fraction, quotient, whole, _⊕_, _⊖_, _⊗_
 unfoldable pub exactHome : Fraction → ℕ → Fraction
 exactHome total held = larger (total ⊖ whole held) (whole 0)
 
--- operational risk (000, 1.3): the larger of home + rest - supplement and 0, divided by 5
+-- operational risk (000, V): the larger of home + rest - supplement and 0, divided by 5
 unfoldable pub exactOper : Fraction → Fraction → Fraction → Fraction
 exactOper home rest supplement = larger (home ⊕ rest ⊖ supplement) (whole 0) ⊗ quotient 1 5
 

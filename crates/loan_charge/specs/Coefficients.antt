@@ -6,11 +6,6 @@ use lib.Dec.{leb}
 use Rattle.exact.specs.Choice.{upTo}
 use Rattle.exact.specs.Fraction.{Fraction, quotient, whole, _⊕_, _⊖_, _⊗_}
 
--- the first value where the test holds, else the second
-abbrev pub pick : {A : Type 0} → Bool → A → A → A
-pick true x y = x
-pick false x y = y
-
 -- "five years or less": a remaining insurance term, in months, that the first set serves
 abbrev pub firstSet : ℕ → Bool
 firstSet term = leb term 60

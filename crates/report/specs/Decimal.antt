@@ -21,7 +21,6 @@ unfoldable pub digits : ℕ → List ℕ
 unfolding leading
 digits n = leading n (n / 10) ++ (digit (n % 10) ∷ [])
 
--- a where the test holds, else b
 -- 01, S: the digits, after a minus sign where the number is below 0
 unfoldable pub signed : Signed → List ℕ
 unfolding digits
