@@ -1,10 +1,13 @@
 #!/usr/bin/env python3
-"""Runs the built program over generated and damaged books and compares what it prints with the reference.
+"""Runs the built program over fixed, generated and damaged books and compares what it prints with the reference.
 
-Refusals are compared exactly; the two sums of the loans' numbers lie in the range that the reference allows; every
-other line follows exactly from them; the required amount keeps to its two bounds; the order of lines changes nothing.
+Refusals are compared exactly; the two sums of the loans' numbers lie in the range that the reference allows; every other
+line follows exactly from them; the required amount keeps to its two bounds. A book that is not refused is held to two
+more: its lines in another order print the same bytes, and its two sums are those of the numbers that each of its loans
+has alone, in a book of its own.
 """
 import argparse
+import itertools
 import random
 import re
 import subprocess
@@ -17,10 +20,27 @@ from reference import book, forms
 LOAN_DISTANCE = Fraction(105, 100)  # of a loan's numbers from the exact ones, in cents
 PER_LOAN, BESIDES = 3, 3  # demand 3: the required amount exceeds the exact one by less than this
 
+# A loan of next to nothing, more than 0: its total number can only be 1, its supplement is 0.
+SMALL_LOAN = b"(loan (bal 1) (val 10000000000) (amort 480) (term 480) (score 900 0) (sup 0))\n"
+SMALL_TOTAL = 1
+
+
+def _header(loans, unscored=0):
+    return b"(book (loans %d) (unscored %d) (scores aged) (held 0))\n" % (loans, unscored)
+
+
 HEADER = b"(book (loans 0) (unscored 0) (scores fresh) (held 0))\n"
-ONE_LOAN = b"(book (loans 1) (unscored 0) (scores aged) (held 0))\n"
 LOAN = b"(loan (bal 7) (val 7) (amort 7) (term 7) (score 720 7) (sup 1))\n"
+UNSCORED = b"(loan (bal 7) (val 7) (amort 7) (term 7) (score none) (sup 1))\n"
+OUT_OF_RANGE = b"(loan (bal 0) (val 7) (amort 7) (term 7) (score none) (sup 1))\n"
+OTHER_KINDS = (
+    b"(policy (class home) (prem 7) (term 300) (done 5))\n(policy (class multi) (prem 7) (term 300) (done 5))\n"
+    b"(deriv (kind fx) (cost 7) (notional 7) (months 7) (pays 7) (factor 7))\n(asset (amount 7) (factor 7))\n"
+    b"(claims 7)\n(lossc 7)\n(stated 7)\n(equity 7)\n(aoci -7)\n(b 7)\n"
+)
+ALL_OTHERS = OTHER_KINDS * (book.OTHER_LINES // OTHER_KINDS.count(b"\n"))
 FIXED = (
+    # the input: its lines, and the end of the last
     b"",
     b"\n",
     b"\n\n",
@@ -28,21 +48,45 @@ FIXED = (
     HEADER,
     HEADER + b"\n",
     HEADER[:-1] + b"\r\n",
-    ONE_LOAN,
-    ONE_LOAN + LOAN,
-    ONE_LOAN + LOAN + LOAN,
-    b"(book (loans 1) (unscored 1) (scores aged) (held 0))\n" + LOAN,
-    b"(book (loans 0) (unscored 1) (scores aged) (held 0))\n",
-    HEADER + HEADER,
     HEADER + b"x" * 240 + b"\n",
     HEADER + b"x" * 241 + b"\n",
     HEADER + b"x" * 200_000,
     b"x" * 200_000 + b"\n",
     b"(claims 1)\n",
+    HEADER + HEADER,
+    HEADER + b"(asset (amount 100000) (factor 25))\n(claims 1001)\n(equity 1000)\n(c 100)\n",
+    # the header's counts: reached, one short, passed by one
+    _header(0, 1),
+    _header(1_000_000, 1_000_000),
+    _header(1_000_001),
+    _header(1),
+    _header(1) + LOAN,
+    _header(1) + LOAN + LOAN,
+    _header(1, 1) + LOAN,
+    _header(1, 1) + UNSCORED,
+    _header(1, 1) + UNSCORED + UNSCORED,
+    _header(3, 1) + LOAN + UNSCORED,
+    _header(3, 1) + LOAN + UNSCORED + LOAN,
+    _header(3, 1) + LOAN + UNSCORED + LOAN + LOAN,
+    _header(3, 1) + LOAN + LOAN + LOAN,
+    _header(3, 1) + UNSCORED + UNSCORED + LOAN,
+    _header(3, 2) + UNSCORED + LOAN + UNSCORED,
+    _header(3) + UNSCORED,
+    # 1, 2, 7 and 3 before 5
+    _header(1) + LOAN + b"x" * 241 + b"\n",
+    _header(1) + LOAN + b"x\n",
+    _header(1) + LOAN + HEADER,
+    _header(1) + LOAN + OUT_OF_RANGE,
+    # 100,000 lines that are not loans, and one more; 1, 2, 7 and 3 before 8
     HEADER + b"(b 0)\n" * book.OTHER_LINES,
     HEADER + b"(b 0)\n" * (book.OTHER_LINES + 1),
-    ONE_LOAN + b"(b 0)\n" * book.OTHER_LINES + LOAN,
-    HEADER + b"(asset (amount 100000) (factor 25))\n(claims 1001)\n(equity 1000)\n(c 100)\n",
+    _header(1) + ALL_OTHERS + LOAN,
+    _header(1) + ALL_OTHERS + LOAN + b"(c 7)\n",
+    _header(1) + LOAN + ALL_OTHERS + LOAN,
+    HEADER + ALL_OTHERS + b"x" * 241 + b"\n",
+    HEADER + ALL_OTHERS + b"x\n",
+    HEADER + ALL_OTHERS + HEADER,
+    HEADER + ALL_OTHERS + b"(asset (amount 7) (factor 10001))\n",
 )
 
 
@@ -64,7 +108,7 @@ def _valid_line(source, kind):
             return line
 
 
-def _loan_line(source, scored):
+def loan_line(source, scored):
     """A loan of an ordinary size, or one with any numbers in range."""
     if source.randrange(3) == 0:
         return _valid_line(source, "loan" if scored else "loan_unscored")
@@ -77,11 +121,11 @@ def _loan_line(source, scored):
     )
 
 
-def _book(source):
+def whole_book(source):
     """A header and lines that fit it."""
     loans = source.choice((0, 0, 1, 2, 5, 19, 20, 21))
     unscored = min(loans, source.choice((0, 0, 1, 2)))
-    lines = [_loan_line(source, i >= unscored) for i in range(loans)]
+    lines = [loan_line(source, i >= unscored) for i in range(loans)]
     others = ["policy", "deriv", "asset", "claims", "lossc", "stated", "equity", "aoci", "b", "c"]
     lines += [_valid_line(source, source.choice(others)) for _ in range(source.randrange(12))]
     source.shuffle(lines)
@@ -99,7 +143,7 @@ def _damaged(source, lines):
     elif kind == 1:
         lines.insert(i, lines[i])
     elif kind == 2:
-        lines.insert(i, line_cases._random(source).replace(b"\n", b""))
+        lines.insert(i, line_cases.random_line(source).replace(b"\n", b""))
     elif kind == 3:
         lines.insert(i, bytes(b for b in source.randbytes(source.choice((0, 1, 5, 239, 240, 241, 500))) if b != 10))
     elif kind == 4:
@@ -115,15 +159,21 @@ def _joined(source, lines):
     return b"\n".join(lines) + source.choice((b"", b"\n", b"\n"))
 
 
+def sums_of(printed):
+    """The two sums of the loans' numbers that a report tells, or None."""
+    found = re.match(rb"\(loans \d+\)\n\(total (-?\d+)\)\n\(supplement (-?\d+)\)\n", printed)
+    return found and tuple(map(int, found.groups()))
+
+
 def problem(found, printed):
     """What is wrong with the output of a run, or None. `found` is the reference's book or refusal."""
     if isinstance(found, tuple):
         expected = b"(refused %d %d)\n" % found
         return None if printed == expected else f"expected {expected!r}"
-    numbers = re.match(rb"\(loans \d+\)\n\(total (-?\d+)\)\n\(supplement (-?\d+)\)\n", printed)
-    if numbers is None:
+    sums = sums_of(printed)
+    if sums is None:
         return "no report"
-    total, supplement = map(int, numbers.groups())
+    total, supplement = sums
     expected = found.report(total, supplement)
     if printed != expected:
         return f"expected {expected!r}"
@@ -139,18 +189,79 @@ def problem(found, printed):
     return None
 
 
-def _inputs(source, count):
-    """Pairs of an input and another order of the same lines, or None."""
+def alone(opened, line):
+    """The input of a book that holds one loan of an opened book, with the same credit factor; and how many small loans besides.
+
+    Without a score the factor is 1.3 only for one loan of 20 or more.
+    """
+    scores = b"aged" if opened.aged else b"fresh"
+    unscored = b"(score none)" in line
+    small = 19 if unscored and 20 * opened.unscored <= opened.loans else 0
+    header = b"(book (loans %d) (unscored %d) (scores %s) (held 0))\n" % (1 + small, unscored, scores)
+    return header + line + b"\n" + SMALL_LOAN * small, small
+
+
+def sums_alone(run, lines):
+    """The sums of the two numbers that each loan has alone, or what is wrong with one of them."""
+    opened = book.open_book(lines[0])
+    total = supplement = 0
+    for line in lines[1:]:
+        if not line.startswith(b"(loan "):
+            continue
+        data, small = alone(opened, line)
+        printed = run(data)
+        wrong = problem(book.run(data), printed)
+        if wrong is not None:
+            return f"of the loan {line!r} alone: {wrong}"
+        numbers = sums_of(printed)
+        total += numbers[0] - small * SMALL_TOTAL
+        supplement += numbers[1]
+    return total, supplement
+
+
+def whole_problem(run, source, lines, printed):
+    """What is wrong with the report of a book that is not refused, or None."""
+    others = lines[1:]
+    source.shuffle(others)
+    if run(_joined(source, lines[:1] + others)) != printed:
+        return "another report in another order"
+    sums = sums_alone(run, lines)
+    return None if sums == sums_of(printed) else f"the sums of the loans alone: {sums}"
+
+
+def generated(run, source, whole):
+    """One book, whole or damaged: what is wrong, the input, what was printed."""
+    lines = whole_book(source)
+    data = _joined(source, lines if whole else _damaged(source, lines))
+    printed = run(data)
+    wrong = problem(book.run(data), printed)
+    if wrong is None and whole:
+        wrong = whole_problem(run, source, lines, printed)
+    return wrong, data, printed
+
+
+def runner(program):
+    def run(data):
+        return subprocess.run([program], input=data, stdout=subprocess.PIPE, check=True).stdout
+
+    return run
+
+
+def fixed_results(run):
     for data in FIXED:
-        yield data, None
+        printed = run(data)
+        yield problem(book.run(data), printed), data, printed
+
+
+def results(run, seed, count):
+    """What came out of so many generated books, half of them damaged."""
+    source = random.Random(seed)
     for i in range(count):
-        lines = _book(source)
-        if i % 2:
-            yield _joined(source, _damaged(source, lines)), None
-        else:
-            others = lines[1:]
-            source.shuffle(others)
-            yield _joined(source, lines), _joined(source, lines[:1] + others)
+        yield generated(run, source, whole=i % 2 == 0)
+
+
+def failure(wrong, data, printed):
+    return f"FAILED: {wrong}\n  input {data[:400]!r}\n  printed {printed[:400]!r}"
 
 
 def main():
@@ -159,21 +270,14 @@ def main():
     parser.add_argument("--count", type=int, default=200, help="how many generated books, half of them damaged")
     parser.add_argument("--seed", type=int, default=1)
     options = parser.parse_args()
-
-    def run(data):
-        return subprocess.run([options.program], input=data, stdout=subprocess.PIPE, check=True).stdout
-
+    run = runner(options.program)
     passed = failed = 0
-    for data, reordered in _inputs(random.Random(options.seed), options.count):
-        printed = run(data)
-        wrong = problem(book.run(data), printed)
-        if wrong is None and reordered is not None and run(reordered) != printed:
-            wrong = "another report in another order"
-        if wrong is None:
+    for result in itertools.chain(fixed_results(run), results(run, options.seed, options.count)):
+        if result[0] is None:
             passed += 1
         else:
             failed += 1
-            print(f"FAILED: {wrong}\n  input {data[:400]!r}\n  printed {printed[:400]!r}")
+            print(failure(*result))
     print(f"{passed} passed, {failed} failed")
     sys.exit(1 if failed else 0)
 

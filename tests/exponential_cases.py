@@ -36,7 +36,7 @@ def _random(source):
     return source.randrange(END, 1 << source.randrange(44, 65))
 
 
-def stored_cases():
+def stored_files():
     source = random.Random(38)
     ys = set()
     for k in range(ENTRIES):
@@ -46,13 +46,13 @@ def stored_cases():
     for bits in range(43, 65):
         ys.update(y for y in ((1 << bits) - 1, 1 << bits) if y < 1 << 64)
     ys.update(_random(source) for _ in range(1500))
-    return [case(y) for y in sorted(ys)]
+    return stored.case_files(case(y) for y in sorted(ys))
 
 
-def more_cases(seed, count):
+def further(program, seed, count):
     source = random.Random(seed)
-    return (case(_random(source)) for _ in range(count))
+    return stored.run(program, (case(_random(source)) for _ in range(count)))
 
 
 if __name__ == "__main__":
-    stored.main("try_exponential", __doc__, stored_cases, more_cases)
+    stored.main("try_exponential", __doc__, stored_files, further)

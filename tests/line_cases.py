@@ -186,7 +186,7 @@ def _shapes():
         yield b"(c %c)" % b
 
 
-def _random(source):
+def random_line(source):
     """A line of some form with numbers of any size, sometimes damaged in up to three places."""
     fields = source.choice(list(FIELDS.values()))
     out = []
@@ -206,16 +206,16 @@ def _random(source):
     return line
 
 
-def stored_cases():
+def stored_files():
     source = random.Random(240)
-    lines = itertools.chain(_ranges(), _headers(), _shapes(), _bytes(source), (_random(source) for _ in range(1200)))
-    return [case(line) for line in dict.fromkeys(lines)]
+    lines = itertools.chain(_ranges(), _headers(), _shapes(), _bytes(source), (random_line(source) for _ in range(1200)))
+    return stored.case_files(case(line) for line in dict.fromkeys(lines))
 
 
-def more_cases(seed, count):
+def further(program, seed, count):
     source = random.Random(seed)
-    return (case(_random(source)) for _ in range(count))
+    return stored.run(program, (case(random_line(source)) for _ in range(count)))
 
 
 if __name__ == "__main__":
-    stored.main("try_lines", __doc__, stored_cases, more_cases)
+    stored.main("try_lines", __doc__, stored_files, further)

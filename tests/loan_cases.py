@@ -6,13 +6,19 @@ greatest allowed supplement number, each as two numbers, what is above 0 and wha
 is p / q balances, m is in 10^17ths, and the allowed numbers are in cents.
 
 2 scored number age aged loans unscored m, the header's loans and unscored among them, m in 10^17ths.
+
+Further loans (--run) are compared twice: by the program, and here with its own two numbers of each loan. It prints the
+numbers of a loan that is outside what is allowed, so the second time nothing is allowed. The largest distances are printed.
 """
 import random
+import re
+import subprocess
 from fractions import Fraction
-from math import isqrt
+from math import ceil, isqrt
 
 import stored
 from reference import loan
+from reference.exponential import combination_bounds
 
 DISTANCE = Fraction(105, 100)
 UNIT = 10**17
@@ -26,29 +32,37 @@ MONTHS = sorted(
 )
 
 
-def _line(numbers):
+def line(numbers):
     return b" ".join(b"%d" % n for n in numbers) + b"\n"
 
 
-def _pair(x):
+def pair(x):
     return (max(x, 0), max(-x, 0))
 
 
-def case(p, q, balance, months, term, sup, m):
-    z = loan.scaled_value(p, q)
-    factor = Fraction(m, UNIT)
-    allowed = loan.allowed_total(loan.total(z, balance, months, term, sup, factor), DISTANCE)
-    allowed += loan.allowed_supplement(loan.supplement(z, balance, months, term, sup, factor), DISTANCE)
-    numbers = [1, p, q, balance, months, term, sup, m]
-    for x in allowed:
-        numbers += _pair(x)
-    return _line(numbers)
+def exact(p, q, balance, months, term, sup, m):
+    """The exact base plus supplement, and the exact supplement."""
+    of = loan.scaled_value(p, q), balance, months, term, sup, Fraction(m, UNIT)
+    return loan.total(*of), loan.supplement(*of)
+
+
+def allowed(values):
+    """The least and the greatest allowed total number, and supplement number."""
+    total, supplement = exact(*values)
+    return loan.allowed_total(total, DISTANCE) + loan.allowed_supplement(supplement, DISTANCE)
+
+
+def case(*values, ranges=None):
+    numbers = [1, *values]
+    for x in ranges or allowed(values):
+        numbers += pair(x)
+    return line(numbers)
 
 
 def factor_case(score, aged, loans, unscored):
     m = int(loan.credit_factor(score, aged, loans, unscored) * UNIT)
     number, age = (0, 0) if score is None else score
-    return _line([2, int(score is not None), number, age, int(aged), loans, unscored, m])
+    return line([2, int(score is not None), number, age, int(aged), loans, unscored, m])
 
 
 def _spread(source, most):
@@ -173,19 +187,53 @@ def _factors():
                     yield None, aged, loans, unscored
 
 
-def stored_cases():
+def stored_files():
     source = random.Random(17)
     loans = list(_extremes()) + list(_each_month(source)) + list(_each_factor(source))
     loans += [_nearly_paid(source) for _ in range(500)]
     loans += [_random(source) for _ in range(3000)]
-    return [case(*values) for values in loans] + [factor_case(*values) for values in _factors()]
+    return stored.case_files([case(*values) for values in loans] + [factor_case(*values) for values in _factors()])
 
 
-def more_cases(seed, count):
+def numbers_of(program, loans):
+    """The two numbers that the program gives each loan: no number is both at least 1 and at most 0, so it prints them."""
+    cases = [case(*values, ranges=(1, 0, 1, 0)) for values in loans]
+    done = subprocess.run([program], input=stored.in_blocks(cases), capture_output=True, check=True)
+    found = re.findall(rb"(\d+) - (\d+); (\d+) - (\d+); outside ", done.stdout)
+    if len(found) != len(loans):
+        raise SystemExit(f"{len(found)} loans were printed, not {len(loans)}")
+    return [(int(a) - int(b), int(c) - int(d)) for a, b, c, d in found]
+
+
+def distances(values, total, supplement):
+    """How far the total lies above the exact one and the supplement below it, in cents."""
+    exact_total, exact_supplement = exact(*values)
+    return total - combination_bounds(exact_total)[0], combination_bounds(exact_supplement)[1] - supplement
+
+
+def compare(loans, numbers):
+    """Compares each loan's two numbers, prints the largest distance of each, and tells whether all are allowed."""
+    outside = 0
+    largest = [(Fraction(-1), None), (Fraction(-1), None)]
+    for values, (total, supplement) in zip(loans, numbers, strict=True):
+        least, greatest, least_supplement, greatest_supplement = allowed(values)
+        if not (least <= total <= greatest and least_supplement <= supplement <= greatest_supplement):
+            outside += 1
+            print("outside:", *values, "total", total, "supplement", supplement)
+        for i, distance in enumerate(distances(values, total, supplement)):
+            largest[i] = max(largest[i], (distance, values))
+    for title, (distance, values) in zip(("total above", "supplement below"), largest if loans else ()):
+        at = "p {} q {} balance {} months {} term {} sup {} m {}".format(*values)
+        print(f"largest distance of a {title} the exact one: {ceil(distance * 10**6) / 10**6} cents, at {at}")
+    return outside == 0
+
+
+def further(program, seed, count):
     source = random.Random(seed)
-    for i in range(count):
-        yield case(*(_nearly_paid(source) if i % 8 == 0 else _random(source)))
+    loans = [_nearly_paid(source) if i % 8 == 0 else _random(source) for i in range(count)]
+    within = stored.run(program, (case(*values) for values in loans))
+    return compare(loans, numbers_of(program, loans)) and within
 
 
 if __name__ == "__main__":
-    stored.main("try_loan_charge", __doc__, stored_cases, more_cases)
+    stored.main("try_loan_charge", __doc__, stored_files, further)

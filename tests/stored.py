@@ -25,7 +25,7 @@ def in_blocks(cases):
     return b"".join(out)
 
 
-def _run(program, cases):
+def run(program, cases):
     """Runs a built test program over any number of cases; whether none is outside."""
     cases = list(cases)
     done = subprocess.run([program], input=in_blocks(cases), capture_output=True, check=True)
@@ -33,30 +33,41 @@ def _run(program, cases):
     return done.stdout == tally(len(cases))
 
 
-def main(crate, description, stored_cases, more_cases):
-    """stored_cases(): the stored ones; more_cases(seed, count): further ones. A case is one line of bytes."""
-    parser = argparse.ArgumentParser(description=description)
-    parser.add_argument("--check", action="store_true", help="compare with the stored files and write nothing")
-    parser.add_argument("--run", metavar="PROGRAM", help="run this built program over further cases and write nothing")
-    parser.add_argument("--count", type=int, default=50_000, help="how many further cases (with --run)")
-    parser.add_argument("--seed", type=int, default=1, help="the seed of the further cases (with --run)")
-    options = parser.parse_args()
-    if options.run:
-        sys.exit(0 if _run(options.run, more_cases(options.seed, options.count)) else 1)
-    cases = list(stored_cases())
-    files = {"stdin": in_blocks(cases), "stdout": tally(len(cases))}
+def keep(crate, files, check):
+    """Writes the files (name: bytes) of a crate or, to check, compares them; whether they are as they should be."""
     different = []
     for name, data in files.items():
         path = ROOT / "crates" / crate / name
-        if options.check:
-            if not path.is_file() or path.read_bytes() != data:
-                different.append(str(path.relative_to(ROOT)))
-        else:
+        if not check:
             path.parent.mkdir(parents=True, exist_ok=True)
             path.write_bytes(data)
+        elif not path.is_file() or path.read_bytes() != data:
+            different.append(str(path.relative_to(ROOT)))
     for name in different:
         print(f"{name}: not what tests/ writes")
     if not different:
-        done = "as stored" if options.check else "written"
-        print(f"{crate}: {len(cases)} cases, {len(files['stdin'])} bytes, {done}")
-    sys.exit(1 if different else 0)
+        size = sum(map(len, files.values()))
+        print(f"{crate}: {' and '.join(files)}, {size} bytes, {'as stored' if check else 'written'}")
+    return not different
+
+
+def case_files(cases):
+    """The stored files of a program that tells how many of its cases came out as they should."""
+    cases = list(cases)
+    return {"stdin": in_blocks(cases), "stdout": tally(len(cases))}
+
+
+def main(crate, description, files, further=None):
+    """files(): the stored files; further(program, seed, count): runs a built program over more, and tells whether all is well."""
+    parser = argparse.ArgumentParser(description=description)
+    parser.add_argument("--check", action="store_true", help="compare with the stored files and write nothing")
+    if further:
+        parser.add_argument("--run", metavar="PROGRAM", help="run this built program over further cases and write nothing")
+        parser.add_argument("--count", type=int, default=10_000, help="how many further cases (with --run)")
+        parser.add_argument("--seed", type=int, default=1, help="the seed of the further cases (with --run)")
+    options = parser.parse_args()
+    if further and options.run:
+        well = further(options.run, options.seed, options.count)
+    else:
+        well = keep(crate, files(), options.check)
+    sys.exit(0 if well else 1)

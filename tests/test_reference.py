@@ -4,6 +4,7 @@ import random
 import unittest
 from fractions import Fraction as F
 
+import book_runs
 from reference import book, exponential, forms, loan
 
 
@@ -104,6 +105,15 @@ class Forms(unittest.TestCase):
         self.assertEqual(forms.read_feeding(b" " * 241), 1)
         self.assertEqual(forms.read_feeding(b" " * 240), 2)
         self.assertEqual(forms.read_feeding(b"(claims 1)\n"), 2)
+
+
+class Books(unittest.TestCase):
+    def test_small_loan(self):
+        """The numbers of the loan that fills up a book are certain, in a fresh book and in an aged one."""
+        for scores in (b"fresh", b"aged"):
+            found = book.run(b"(book (loans 1) (unscored 0) (scores %s) (held 0))\n" % scores + book_runs.SMALL_LOAN)
+            bounds = found.sum_bounds(book_runs.LOAN_DISTANCE)
+            self.assertEqual(bounds, (book_runs.SMALL_TOTAL, book_runs.SMALL_TOTAL, 0, 0))
 
 
 if __name__ == "__main__":

@@ -4,6 +4,7 @@ A loan's two numbers are free within a distance, so the report is computed from 
 and `sum_bounds` tells which sums are allowed.
 """
 from fractions import Fraction
+from functools import lru_cache
 from math import ceil, floor
 
 from . import forms, loan
@@ -115,6 +116,20 @@ def loan_values(form):
     return v[0], v[1], v[2], v[3], None, v[4]
 
 
+@lru_cache(maxsize=1 << 12)
+def _exact_terms(balance, value, months, term, sup, m):
+    """The exact base plus supplement, and the exact supplement, of a loan with this credit factor."""
+    z = loan.scaled_value(value, balance)
+    return loan.total(z, balance, months, term, sup, m), loan.supplement(z, balance, months, term, sup, m)
+
+
+@lru_cache(maxsize=1 << 12)
+def _allowed_numbers(values, distance):
+    """The least and greatest allowed total number of a loan, and supplement number."""
+    total, supplement = _exact_terms(*values)
+    return loan.allowed_total(total, distance) + loan.allowed_supplement(supplement, distance)
+
+
 class Book:
     """The header's values and the forms of the lines taken."""
 
@@ -152,22 +167,18 @@ class Book:
         return 9 if buffer < REPORT_BUFFER else 0
 
     def loan_terms(self, form):
-        """The exact base plus supplement, and the exact supplement, of a loan taken."""
+        """What a loan taken is charged on: balance, value, months, term, sup and its credit factor."""
         balance, value, months, term, score, sup = loan_values(form)
-        z = loan.scaled_value(value, balance)
-        m = loan.credit_factor(score, self.aged, self.loans, self.unscored)
-        return loan.total(z, balance, months, term, sup, m), loan.supplement(z, balance, months, term, sup, m)
+        return balance, value, months, term, sup, loan.credit_factor(score, self.aged, self.loans, self.unscored)
 
     def _loans_taken(self):
-        return [f for f in self.taken if f.kind in ("loan", "loan_unscored")]
+        return [self.loan_terms(f) for f in self.taken if f.kind in ("loan", "loan_unscored")]
 
     def sum_bounds(self, distance):
         """The least and greatest allowed sum of the loans' total numbers, and of their supplements."""
         sums = [0, 0, 0, 0]
-        for form in self._loans_taken():
-            total, supplement = self.loan_terms(form)
-            found = loan.allowed_total(total, distance) + loan.allowed_supplement(supplement, distance)
-            sums = [s + x for s, x in zip(sums, found)]
+        for terms in self._loans_taken():
+            sums = [s + x for s, x in zip(sums, _allowed_numbers(terms, distance))]
         return tuple(sums)
 
     def sums(self, kind):
@@ -206,8 +217,8 @@ class Book:
         rest = sum(map(rest_share, self.taken), Fraction(0))
         ends = []
         totals, supplements = [], []
-        for form in self._loans_taken():
-            total, supplement = self.loan_terms(form)
+        for terms in self._loans_taken():
+            total, supplement = _exact_terms(*terms)
             totals.append(combination_bounds(total))
             supplements.append(combination_bounds(supplement))
         for side in (0, 1):
