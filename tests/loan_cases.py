@@ -205,22 +205,21 @@ def numbers_of(program, loans):
     return [(int(a) - int(b), int(c) - int(d)) for a, b, c, d in found]
 
 
-def distances(values, total, supplement):
-    """How far the total lies above the exact one and the supplement below it, in cents."""
-    exact_total, exact_supplement = exact(*values)
-    return total - combination_bounds(exact_total)[0], combination_bounds(exact_supplement)[1] - supplement
+def _bounds(values):
+    """The allowed numbers of a loan, and from where its total's distance above and its supplement's below are measured."""
+    total, supplement = exact(*values)
+    return allowed(values), combination_bounds(total)[0], combination_bounds(supplement)[1]
 
 
-def compare(loans, numbers):
+def compare(loans, bounds, numbers):
     """Compares each loan's two numbers, prints the largest distance of each, and tells whether all are allowed."""
     outside = 0
     largest = [(Fraction(-1), None), (Fraction(-1), None)]
-    for values, (total, supplement) in zip(loans, numbers, strict=True):
-        least, greatest, least_supplement, greatest_supplement = allowed(values)
-        if not (least <= total <= greatest and least_supplement <= supplement <= greatest_supplement):
+    for values, (ranges, low, high), (total, supplement) in zip(loans, bounds, numbers, strict=True):
+        if not (ranges[0] <= total <= ranges[1] and ranges[2] <= supplement <= ranges[3]):
             outside += 1
             print("outside:", *values, "total", total, "supplement", supplement)
-        for i, distance in enumerate(distances(values, total, supplement)):
+        for i, distance in enumerate((total - low, high - supplement)):
             largest[i] = max(largest[i], (distance, values))
     for title, (distance, values) in zip(("total above", "supplement below"), largest if loans else ()):
         at = "p {} q {} balance {} months {} term {} sup {} m {}".format(*values)
@@ -231,8 +230,9 @@ def compare(loans, numbers):
 def further(program, seed, count):
     source = random.Random(seed)
     loans = [_nearly_paid(source) if i % 8 == 0 else _random(source) for i in range(count)]
-    within = stored.run(program, (case(*values) for values in loans))
-    return compare(loans, numbers_of(program, loans)) and within
+    bounds = list(map(_bounds, loans))
+    within = stored.run(program, (case(*values, ranges=known[0]) for values, known in zip(loans, bounds)))
+    return compare(loans, bounds, numbers_of(program, loans)) and within
 
 
 if __name__ == "__main__":
