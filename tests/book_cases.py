@@ -39,7 +39,7 @@ def no_book():
 
 
 def answers(calls, report=_certain_report):
-    """What each call answers, and the book afterwards; `report` gives the report of a book that is closed."""
+    """What each call answers; `report` gives the report of a book that is closed."""
     open_book = no_book()
     for call in calls:
         kind, rest = call[:1], call[1:]
@@ -67,10 +67,11 @@ def _certain_loan(source, scored, header):
 
 
 def _refused_lines(source, open_book):
-    """A few lines that a book refuses as it stands, of every refusal of a line that it can meet."""
+    """A few lines that a book refuses as it stands, with 1, 2, 7, 3 or 5."""
     tried = [
-        b"x" * 241, b"", b"(claims 01)", b"(book (loans 0) (unscored 0) (scores fresh) (held 0))", b"(asset (amount 7) (factor 10001))",
-        book_runs.loan_line(source, True), book_runs.loan_line(source, False), line_cases.random_line(source).replace(b"\n", b""),
+        b"x" * 241, b"", b"(claims 01)", book_runs.HEADER[:-1], b"(asset (amount 7) (factor 10001))",
+        book_runs.loan_line(source, True), book_runs.loan_line(source, False),
+        line_cases.random_line(source).replace(b"\n", b""),
     ]
     for line in source.sample(tried, source.randrange(4)):
         probe = copy.copy(open_book)

@@ -13,6 +13,7 @@ import re
 import subprocess
 import sys
 from fractions import Fraction
+from pathlib import Path
 
 import line_cases
 from reference import book, forms
@@ -247,8 +248,9 @@ def runner(program):
     return run
 
 
-def fixed_results(run):
-    for data in FIXED:
+def given_results(run, inputs):
+    """What came out of given inputs."""
+    for data in inputs:
         printed = run(data)
         yield problem(book.run(data), printed), data, printed
 
@@ -269,10 +271,15 @@ def main():
     parser.add_argument("program", help="the built program")
     parser.add_argument("--count", type=int, default=200, help="how many generated books, half of them damaged")
     parser.add_argument("--seed", type=int, default=1)
+    parser.add_argument("--book", type=Path, help="the book of this file and no other")
     options = parser.parse_args()
     run = runner(options.program)
+    if options.book:
+        tried = given_results(run, [options.book.read_bytes()])
+    else:
+        tried = itertools.chain(given_results(run, FIXED), results(run, options.seed, options.count))
     passed = failed = 0
-    for result in itertools.chain(fixed_results(run), results(run, options.seed, options.count)):
+    for result in tried:
         if result[0] is None:
             passed += 1
         else:
