@@ -120,29 +120,39 @@ def _stored_calls():
     return calls
 
 
+def _input(calls):
+    return b"".join(call + b"\n" for call in calls)
+
+
 def stored_files():
     calls = _stored_calls()
-    stdin = b"".join(call + b"\n" for call in calls)
-    assert len(stdin) <= stored.BLOCK
-    return {"stdin": stdin, "stdout": b"".join(answers(calls))}
+    assert len(_input(calls)) <= stored.BLOCK
+    return {"stdin": _input(calls), "stdout": b"".join(answers(calls))}
+
+
+def _book_calls(source):
+    """A book, and calls that make it in two orders; they fit into one block."""
+    while True:
+        lines = book_runs.whole_book(source)
+        closings = [b"c511", b"c%d" % source.choice((512, 513, BUFFER))]
+        calls = [call for _ in range(2) for call in _feedings(source, lines[0], lines[1:]) + closings]
+        if len(_input(calls)) <= stored.BLOCK:
+            return lines, calls
 
 
 def _problem(run, source):
     """What is wrong with the answers of one book's calls in two orders, or None; the input and what was printed."""
-    header, *lines = book_runs.whole_book(source)
-    size = source.choice((512, 513, BUFFER))
-    orders = [_feedings(source, header, lines) + [b"c511", b"c%d" % size] for _ in range(2)]
-    data = b"".join(call + b"\n" for calls in orders for call in calls)
+    lines, calls = _book_calls(source)
+    data = _input(calls)
     printed = run(data)
     reports = re.findall(rb"^c 0 (\d+)\n(?s:(.{640}))\n", printed, re.M)
     texts = [text[: int(length)] for length, text in reports]
     if len(texts) != 2 or texts[0] != texts[1]:
         return "not two equal reports", data, printed
-    expected = b"".join(answers([call for calls in orders for call in calls], lambda _: texts[0]))
+    expected = b"".join(answers(calls, lambda _: texts[0]))
     if printed != expected:
         return f"expected {expected!r}", data, printed
-    whole = book.run(b"\n".join([header, *lines]))
-    return book_runs.problem(whole, texts[0]), data, printed
+    return book_runs.problem(book.run(b"\n".join(lines)), texts[0]), data, printed
 
 
 def results(run, seed, count):

@@ -124,8 +124,8 @@ def loan_line(source, scored):
 
 def whole_book(source):
     """A header and lines that fit it."""
-    loans = source.choice((0, 0, 1, 2, 5, 19, 20, 21))
-    unscored = min(loans, source.choice((0, 0, 1, 2)))
+    loans = source.choice((0, 1, 2, 5, 19, 20, 21, source.randrange(22, 130)))
+    unscored = min(loans, source.choice((0, 1, 2, loans // 20, loans // 20 + 1)))
     lines = [loan_line(source, i >= unscored) for i in range(loans)]
     others = ["policy", "deriv", "asset", "claims", "lossc", "stated", "equity", "aoci", "b", "c"]
     lines += [_valid_line(source, source.choice(others)) for _ in range(source.randrange(12))]
@@ -255,6 +255,21 @@ def given_results(run, inputs):
         yield problem(book.run(data), printed), data, printed
 
 
+def stopped(program):
+    """What came out where the input goes on after a refusal: nothing more of it is waited for."""
+    data = HEADER + b"x\n"
+    with subprocess.Popen([program], stdin=subprocess.PIPE, stdout=subprocess.PIPE) as process:
+        process.stdin.write(data)
+        process.stdin.flush()
+        try:
+            process.wait(timeout=30)
+        except subprocess.TimeoutExpired:
+            process.kill()
+            return "more input is waited for after a refusal", data, b""
+        printed = process.stdout.read()
+    return problem(book.run(data), printed), data, printed
+
+
 def results(run, seed, count):
     """What came out of so many generated books, half of them damaged."""
     source = random.Random(seed)
@@ -277,7 +292,8 @@ def main():
     if options.book:
         tried = given_results(run, [options.book.read_bytes()])
     else:
-        tried = itertools.chain(given_results(run, FIXED), results(run, options.seed, options.count))
+        generated_books = results(run, options.seed, options.count)
+        tried = itertools.chain([stopped(options.program)], given_results(run, FIXED), generated_books)
     passed = failed = 0
     for result in tried:
         if result[0] is None:
