@@ -1,7 +1,7 @@
 // The mortgage capital book: reads a book from standard input and prints its report, or its refusal.
 ghost use mathlib.Core.Path.{_≡_};
 ghost use lib.ListN.{length};
-ghost use Rattle.exponential.specs.Table.{entries};
+ghost use Rattle.loan_charge.specs.Tables.{exponentials};
 ghost use Rattle.loan_charge.specs.CreditFactor.{builtInRates};
 ghost use Rattle.driver.specs.Reading.{Running};
 use driver::Run;
@@ -21,7 +21,7 @@ fn read_once(
     rates: &[u64; 66],
     buf: &mut [u8],
 ) -> Turn
-    requires { ⌜ Running run × (now exps ≡ entries) × (now rates ≡ builtInRates) × (length (now tail) ≡ 241) ⌝ }
+    requires { ⌜ Running run × (now exps ≡ exponentials) × (now rates ≡ builtInRates) × (length (now tail) ≡ 241) ⌝ }
     ensures { λ r. ⌜ Running (r .run) ⌝ }
 {
     let got = libc::read(0, buf);
@@ -44,7 +44,7 @@ fn read_once(
 
 // Reads to the end of the input. Nothing says that it ends, so the reads are counted down from a number that no run uses up.
 fn read_all(tail: &mut [u8], exps: &[u64; 1537], rates: &[u64; 66], buf: &mut [u8]) -> Turn
-    requires { ⌜ (now exps ≡ entries) × (now rates ≡ builtInRates) × (length (now tail) ≡ 241) ⌝ }
+    requires { ⌜ (now exps ≡ exponentials) × (now rates ≡ builtInRates) × (length (now tail) ≡ 241) ⌝ }
     ensures { λ r. ⌜ Running (r .run) ⌝ }
 {
     let mut run = driver::start();
@@ -65,7 +65,7 @@ fn read_all(tail: &mut [u8], exps: &[u64; 1537], rates: &[u64; 66], buf: &mut [u
 }
 
 fn main() {
-    let exps = exponential::table();
+    let exps = loan_charge::charge::table();
     let rates = loan_charge::credit::rates();
     let mut tail = [0u8; 241];
     let mut buf = io::large_buffer();

@@ -2,59 +2,22 @@
 use mathlib.Core.Path.{_≡_, refl, sym, _∙_, ap, subst}
 use mathlib.Core.Bool.{Bool, true, false}
 use mathlib.Core.List.{List, [], _∷_, _++_}
-use Prim.Native.Nat.{ℕ, _+_, _≤_, _<_}
+use Prim.Native.Nat.{ℕ, _+_, _≤_}
 use native.Mathlib.Omega.{arith}
-use lib.Dec.{eqb, ltb}
-use lib.ListN.{length, take, length-append, length-take}
-use lib.Seq.{take-all, take-append-le, length-take-le, take-take}
-use borrow.Author.Tests.{eqb-true, eq-eqb, ne-eqb, eqb-false, lt-ltb, le-ltb, ltb-true, ltb-false}
+use lib.Dec.{eqb}
+use lib.ListN.{take}
+use borrow.Author.Tests.{eqb-true, eqb-false}
 use Rattle.exact.specs.Choice.{pick}
-use Rattle.report.specs.Line.{refusalLine}
-use Rattle.line_forms.specs.declared.Line.the-variants.{Refusal}
-use Rattle.line_forms.specs.declared.HeaderLine.the-variants.{Refusal as HeaderRefusal}
-use Rattle.line_forms.specs.Readings.{lineOf, headerOf}
+use Rattle.report.specs.Line.{refusalLine, Written}
 use Rattle.book.specs.declared.Book.{Book}
 use Rattle.book.specs.Calls.{opening, feeding}
 use Rattle.driver.specs.declared.Progress.{Progress}
 use Rattle.driver.specs.Reading.{Reading, atStart, after, newline, kept, withLine, withByte, withBytes, readingOf}
 use Rattle.driver.specs.declared.Run.{Run}
-use Rattle.report.specs.Line.{Written}
 use Rattle.driver.proofs.Lines.{line-refused, line-opens, line-fed}
-use Rattle.driver.proofs.Bytes.{bytes-append}
-use Rattle.driver.proofs.Answers.{printed-refused, printed-empty, printed-end, ended-line}
-use Rattle.driver.specs.Printed.{lastOf, linesFrom, linesOf, printedAtEnd, printedFeeding, printedLines, printed, printedFor, endedWith, ended}
-
--- Of a line over 240 bytes the first 241 read the same.
-
-long-line : (s : List ℕ) → 240 < length s → lineOf s ≡ Refusal 1
-unfolding lineOf
-long-line s h = rw (lt-ltb 240 (length s) h) refl
-
-long-header : (s : List ℕ) → 240 < length s → headerOf s ≡ HeaderRefusal 1
-unfolding headerOf
-long-header s h = rw (lt-ltb 240 (length s) h) refl
-
-long-same : (p : Progress) (s t : List ℕ) → 240 < length s → 240 < length t → withLine p s ≡ withLine p t
-unfolding withLine
-long-same p s t h k = rw (long-line s h, long-line t k, long-header s h, long-header t k) refl
-
-cut-same : (p : Progress) (s : List ℕ) → withLine p (take 241 s) ≡ withLine p s
-cut-same p s = go (ltb 240 (length s)) refl
-  where
-    go : (t : Bool) → ltb 240 (length s) ≡ t → withLine p (take 241 s) ≡ withLine p s
-    go true e = let n : 240 < length s = omega (arith, ltb-true 240 (length s) e) in long-same p (take 241 s) s (rw (length-take-le 241 s (omega arith)) (omega arith)) n
-    go false e = rw (take-all 241 s (omega (arith, ltb-false 240 (length s) e))) refl
-
--- a byte more of a line that is cut
-cut-kept : (s : List ℕ) (byte : ℕ) → kept (take 241 s) byte ≡ take 241 (s ++ (byte ∷ []))
-cut-kept s byte = go (ltb (length s) 241) refl
-  where
-    go : (t : Bool) → ltb (length s) 241 ≡ t → take 241 (take 241 s ++ (byte ∷ [])) ≡ take 241 (s ++ (byte ∷ []))
-    go true e = rw (take-all 241 s (omega (arith, ltb-true (length s) 241 e))) refl
-    go false e =
-        let n : 241 ≤ length s = ltb-false (length s) 241 e in
-        let m : length (take 241 s) ≡ 241 = length-take-le 241 s n in
-        rw (take-append-le 241 s (byte ∷ []) n, take-append-le 241 (take 241 s) (byte ∷ []) (omega arith)) (take-take 241 241 s (omega arith))
+use Rattle.driver.proofs.Bytes.{cut-same, take-front, bytes-append}
+use Rattle.driver.proofs.Answers.{printed-refused, printed-empty, printed-end}
+use Rattle.driver.specs.Printed.{lastOf, linesFrom, linesOf, printedFeeding, printedLines, printed, printedFor, endedWith, ended}
 
 -- the reading after a byte, with the whole line in place of its first bytes
 byte-newline : (p : Progress) (line : List ℕ) (byte : ℕ) → eqb byte newline ≡ true → withByte (record { progress = p; tail = take 241 line }) byte ≡ record { progress = withLine p line; tail = take 241 [] }
@@ -63,7 +26,7 @@ byte-newline p line byte e = rw e (λ i. record { progress = cut-same p line i; 
 
 byte-other : (p : Progress) (line : List ℕ) (byte : ℕ) → eqb byte newline ≡ false → withByte (record { progress = p; tail = take 241 line }) byte ≡ record { progress = p; tail = take 241 (line ++ (byte ∷ [])) }
 unfolding withByte
-byte-other p line byte e = rw e (λ i. record { progress = p; tail = cut-kept line byte i })
+byte-other p line byte e = rw e (λ i. record { progress = p; tail = take-front 241 line (byte ∷ []) i })
 
 ended-by : {s t : Reading} (input : List ℕ) → s ≡ t → ended (withBytes s input) ≡ ended (withBytes t input)
 ended-by input e = ap (λ (x : Reading). ended (withBytes x input)) e
@@ -77,7 +40,7 @@ refused-byte : (s : Reading) (byte : ℕ) → (s .progress .refusal ≡ 0 → �
 unfolding withByte
 refused-byte s byte h = go (eqb byte newline)
   where
-    go : (t : Bool) → pick {A = Reading} t (record { progress = withLine (s .progress) (s .tail); tail = [] }) (record { progress = s .progress; tail = kept (s .tail) byte }) .progress ≡ s .progress
+    go : (t : Bool) → pick {A = Reading} t (record { progress = withLine (s .progress) (s .tail); tail = [] }) (record { progress = s .progress; tail = kept (s .tail) (byte ∷ []) }) .progress ≡ s .progress
     go true = sym (line-refused (s .progress) (s .tail) h)
     go false = refl
 

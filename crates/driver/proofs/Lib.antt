@@ -1,4 +1,5 @@
 pub mod Lines
+pub mod FirstNewline
 pub mod Bytes
 pub mod Answers
 pub mod Law

@@ -1,6 +1,6 @@
 -- A line more: what reading it gives, that the book stays sound and that each accepted line is counted.
 -- Assumes nothing.
-use mathlib.Core.Path.{_≡_, refl, sym, _∙_, ap, subst}
+use mathlib.Core.Path.{_≡_, refl}
 use mathlib.Core.Bool.{Bool, true, false}
 use mathlib.Core.List.{List}
 use Prim.Native.Nat.{ℕ, _+_, _-_, _≤_}
@@ -22,7 +22,7 @@ use Rattle.book.specs.declared.Fed.{Fed}
 use Rattle.book.specs.Terms.{termsWith}
 use Rattle.book.specs.Share.{share}
 use Rattle.book.specs.Accepted.{isLoan, isOther, refusalFor}
-use Rattle.book.specs.Calls.{opening, feeding, feedingLine, refusalIn, withLine as lineAdded, Sound}
+use Rattle.book.specs.Calls.{opening, feeding, feedingLine, refusalIn, withLine as lineAdded}
 use Rattle.book.proofs.Steps.{Counted, counted}
 use Rattle.book.proofs.Feeding.{fed-sound, opening-sound}
 use Rattle.book.proofs.Ranged.{ranged, ranged-header}

@@ -1,13 +1,11 @@
 -- Reading a book from an input of bytes, as one function of a byte after the other: so it does not matter where reads cut the input.
 use Prim.Native.Nat.{ℕ, _+_, _≤_}
 use mathlib.Core.Path.{_≡_}
-use mathlib.Core.Bool.{Bool, true, false}
+use mathlib.Core.Bool.{Bool, true, not, _&&_}
 use mathlib.Core.List.{List, [], _∷_, _++_}
 use lib.Dec.{eqb}
 use lib.ListN.{length, take}
 use Rattle.exact.specs.Choice.{pick}
-use Rattle.exponential.specs.Table.{entries}
-use Rattle.loan_charge.specs.CreditFactor.{builtInRates}
 use Rattle.book.specs.declared.Book.{Book}
 use Rattle.book.specs.Calls.{zeroHeader, emptyBook, opening, feeding, Sound}
 use Rattle.driver.specs.declared.Progress.{Progress}
@@ -38,15 +36,20 @@ pub record Reading : Type 0 where
 abbrev pub newline : ℕ
 newline = 10
 
--- A line with one more byte. Beyond 240 bytes a line is refused whatever they are, so 241 are enough.
-abbrev pub kept : List ℕ → ℕ → List ℕ
-kept line byte = take 241 (line ++ (byte ∷ []))
+-- whether no byte ends a line
+unfoldable pub unbroken : List ℕ → Bool
+unbroken [] = true
+unbroken (byte ∷ bytes) = not (eqb byte newline) && unbroken bytes
+
+-- A line with more bytes. Beyond 240 bytes a line is refused whatever they are, so 241 are enough.
+abbrev pub kept : (line bytes : List ℕ) → List ℕ
+kept line bytes = take 241 (line ++ bytes)
 
 -- A newline ends the line; any other byte is added to it.
 unfoldable pub withByte : Reading → ℕ → Reading
 withByte s byte =
     pick (eqb byte newline) (record { progress = withLine (s .progress) (s .tail); tail = [] })
-    (record { progress = s .progress; tail = kept (s .tail) byte })
+    (record { progress = s .progress; tail = kept (s .tail) (byte ∷ []) })
 
 -- the bytes of an input in turn
 unfoldable pub withBytes : Reading → List ℕ → Reading

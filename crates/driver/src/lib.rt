@@ -1,9 +1,11 @@
 // The program's work: lines of an input that comes in parts, and what is printed of it. Only the reads and the write are left to the program.
+mod newlines;
+
 ghost use mathlib.Core.Path.{_≡_};
-ghost use mathlib.Core.List.{[]};
+ghost use mathlib.Core.List.{[], _∷_, _++_};
 ghost use Prim.Native.Nat.{_≤_};
 ghost use lib.ListN.{length, take};
-ghost use Rattle.exponential.specs.Table.{entries};
+ghost use Rattle.loan_charge.specs.Tables.{exponentials};
 ghost use Rattle.loan_charge.specs.CreditFactor.{builtInRates};
 ghost use Rattle.report.specs.Line.{Written};
 ghost use Rattle.book.specs.Calls.{Sound};
@@ -70,7 +72,7 @@ fn answered(refusal: u64, number: u64, book: Book) -> Progress
 
 // A whole line is read.
 fn end_line(p: Progress, exps: &[u64; 1537], rates: &[u64; 66], line: &[u8]) -> Progress
-    requires { ⌜ Underway p × (now exps ≡ entries) × (now rates ≡ builtInRates) ⌝ }
+    requires { ⌜ Underway p × (now exps ≡ exponentials) × (now rates ≡ builtInRates) ⌝ }
     ensures equation { λ r. ⌜ r ≡ withLine p (now (line .entry)) ⌝ }
     ensures underway { λ r. ⌜ Underway r ⌝ }
 {
@@ -92,7 +94,7 @@ fn end_line(p: Progress, exps: &[u64; 1537], rates: &[u64; 66], line: &[u8]) -> 
 // A byte is added to a line not yet ended, of which at most 241 bytes are held.
 fn keep(tail: &mut [u8], held: usize, byte: u8) -> usize
     requires { ⌜ (held ≤ 241) × (length (now tail) ≡ 241) ⌝ }
-    ensures equation { λ r. ⌜ take r (now (tail .exit)) ≡ kept (take held (now (tail .entry))) byte ⌝ }
+    ensures equation { λ r. ⌜ take r (now (tail .exit)) ≡ kept (take held (now (tail .entry))) (byte ∷ []) ⌝ }
     ensures few { λ r. ⌜ r ≤ 241 ⌝ }
 {
     if held < 241 {
@@ -102,24 +104,64 @@ fn keep(tail: &mut [u8], held: usize, byte: u8) -> usize
     held
 }
 
+// Bytes are added to a line not yet ended.
+fn hold(tail: &mut [u8], held: usize, bytes: &[u8]) -> usize
+    requires { ⌜ (held ≤ 241) × (length (now tail) ≡ 241) ⌝ }
+    ensures equation { λ r. ⌜ take r (now (tail .exit)) ≡ kept (take held (now (tail .entry))) (now (bytes .entry)) ⌝ }
+    ensures few { λ r. ⌜ r ≤ 241 ⌝ }
+{
+    let mut n = held;
+    let mut i = 0;
+    while i < bytes.len() {
+        n = keep(tail, n, bytes[i]);
+        i += 1;
+    }
+    n
+}
+
+// A line is read of which `held` bytes came with earlier parts of the input and the others with this one.
+fn end_held(
+    p: Progress,
+    tail: &mut [u8],
+    held: usize,
+    exps: &[u64; 1537],
+    rates: &[u64; 66],
+    others: &[u8],
+) -> Progress
+    requires { ⌜ Underway p × (now exps ≡ exponentials) × (now rates ≡ builtInRates) × (held ≤ 241) × (length (now tail) ≡ 241) ⌝ }
+    ensures equation { λ r. ⌜ r ≡ withLine p (take held (now (tail .entry)) ++ now (others .entry)) ⌝ }
+    ensures underway { λ r. ⌜ Underway r ⌝ }
+{
+    if 0 < held {
+        let n = hold(tail, held, others);
+        return end_line(p, exps, rates, &tail[0..n]);
+    }
+    end_line(p, exps, rates, others)
+}
+
 // A part of the input is read.
 pub fn step(run: Run, tail: &mut [u8], exps: &[u64; 1537], rates: &[u64; 66], chunk: &[u8]) -> Run
-    requires { ⌜ Running run × (now exps ≡ entries) × (now rates ≡ builtInRates) × (length (now tail) ≡ 241) ⌝ }
+    requires { ⌜ Running run × (now exps ≡ exponentials) × (now rates ≡ builtInRates) × (length (now tail) ≡ 241) ⌝ }
     ensures equation { λ r. ⌜ readingOf r (now (tail .exit)) ≡ withBytes (readingOf run (now (tail .entry))) (now (chunk .entry)) ⌝ }
     ensures running { λ r. ⌜ Running r ⌝ }
 {
+    let size = chunk.len();
     let mut p = run.progress;
     let mut held = run.held;
     let mut i = 0;
-    while i < chunk.len() {
-        let byte = chunk[i];
-        if byte == b'\n' {
-            p = end_line(p, exps, rates, &tail[0..held]);
-            held = 0;
-        } else {
-            held = keep(tail, held, byte);
+    while i < size {
+        let end = newlines::line_end(chunk, i);
+        let part = &chunk[i..end];
+        if size <= end {
+            let n = hold(tail, held, part);
+            return Run {
+                progress: p,
+                held: n,
+            };
         }
-        i += 1;
+        p = end_held(p, tail, held, exps, rates, part);
+        held = 0;
+        i = end + 1;
     }
     Run { progress: p, held }
 }
@@ -147,7 +189,7 @@ fn put_answer(p: Progress, out: &mut [u8]) -> usize
 
 // The end of the input: what is to be printed is written to the lent buffer.
 pub fn finish(run: Run, tail: &[u8], exps: &[u64; 1537], rates: &[u64; 66], out: &mut [u8]) -> usize
-    requires { ⌜ Running run × (now exps ≡ entries) × (now rates ≡ builtInRates) × (length (now tail) ≡ 241) × (512 ≤ length (now out)) ⌝ }
+    requires { ⌜ Running run × (now exps ≡ exponentials) × (now rates ≡ builtInRates) × (length (now tail) ≡ 241) × (512 ≤ length (now out)) ⌝ }
     ensures { λ r. ⌜ Written (now (out .entry)) (printedFor (ended (readingOf run (now (tail .entry))))) r (now (out .exit)) ⌝ }
 {
     let p = run.progress;
@@ -164,7 +206,7 @@ pub fn print_input(input: &[u8], out: &mut [u8]) -> usize
     requires { ⌜ 512 ≤ length (now out) ⌝ }
     ensures { λ r. ⌜ Written (now (out .entry)) (printed (now (input .entry))) r (now (out .exit)) ⌝ }
 {
-    let exps = exponential::table();
+    let exps = loan_charge::charge::table();
     let rates = loan_charge::credit::rates();
     let mut tail = [0u8; 241];
     let run = step(start(), &mut tail, &exps, &rates, input);

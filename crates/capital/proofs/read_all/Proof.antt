@@ -1,4 +1,4 @@
-use Rattle.exponential.specs.Table.{entries}
+use Rattle.loan_charge.specs.Tables.{exponentials}
 use Rattle.loan_charge.specs.CreditFactor.{builtInRates}
 use Rattle.driver.specs.Reading.{Running}
 use mathlib.Core.Path.{_≡_}
@@ -8,7 +8,7 @@ use Rattle.capital.proofs.read_all.Statement.{statement}
 use Rattle.capital.proofs.read_all.Tie as tie
 
 abbrev Inv-loop : tie.InvT-loop
-Inv-loop tail₀ exps rates buf₀ run₀ turns₀ tail buf run turns = Running run × (exps ≡ entries) × (rates ≡ builtInRates) × (length tail ≡ 241) × (length buf ≡ length buf₀)
+Inv-loop tail₀ exps rates buf₀ run₀ turns₀ tail buf run turns = Running run × (exps ≡ exponentials) × (rates ≡ builtInRates) × (length tail ≡ 241) × (length buf ≡ length buf₀)
 
 abbrev μ-loop : tie.MeasureT-loop
 μ-loop tail₀ exps rates buf₀ run₀ turns₀ tail buf run turns = turns

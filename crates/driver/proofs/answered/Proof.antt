@@ -1,3 +1,4 @@
+-- `answered` meets its contract.
 use borrow.Author.Tests.{ne-eqb}
 use mathlib.Core.Path.{_≡_, refl}
 use borrow.Author.Needs.{needs}

@@ -1,6 +1,7 @@
-use Rattle.driver.proofs.Bytes.{kept-more, kept-full}
+-- `keep` meets its contract.
 use native.Mathlib.Omega.{arith}
 use borrow.Author.Needs.{needs}
+use Rattle.driver.proofs.Bytes.{kept-more, kept-full}
 use Rattle.driver.proofs.keep.Statement.{statement}
 use Rattle.driver.proofs.keep.Tie as tie
 

@@ -1,14 +1,12 @@
--- `driver::print_input` meets its contract: a start, one step over the whole input, and the finish.
--- Assumes nothing.
-use mathlib.Core.Path.{subst}
+-- `print_input` meets its contract: a start, one step over the whole input, and the finish.
+use mathlib.Core.Path.{subst, _≡_, _∙_, ap}
 use mathlib.Core.List.{List, []}
+use Prim.Native.Nat.{ℕ}
+use borrow.Author.Needs.{needs}
 use Rattle.report.specs.Line.{Written}
 use Rattle.driver.specs.Reading.{Reading, atStart, withBytes, readingOf}
 use Rattle.driver.specs.Printed.{printedFor, ended}
 use Rattle.driver.proofs.Law.{whole}
-use mathlib.Core.Path.{_≡_, _∙_, ap}
-use Prim.Native.Nat.{ℕ}
-use borrow.Author.Needs.{needs}
 use Rattle.driver.proofs.print_input.Statement.{statement}
 use Rattle.driver.proofs.print_input.Tie as tie
 
@@ -38,8 +36,11 @@ same-length c = search needs
 
 returns : tie.Need-returns
 returns c =
-    let e : readingOf (c .before .before .before .before .before .before .before .before .step .result) (c .before .before .before .before .before .before .before .before .step .last .1 .0) ≡ withBytes (record { progress = atStart; tail = [] }) (denote.Ref.now (c .before .before .before .before .before .before .before .before .before .before .before .before .before .before .before .before .before .args .input)) = rw (c .before .before .before .before .before .before .before .before .before .before .before .before .start .ensures .0) at (c .before .before .before .before .before .before .before .before .step .ensures .0) in
-    subst (λ (t : List ℕ). Written (denote.Ref.now (c .before .before .before .before .before .before .before .before .before .before .before .before .before .before .before .before .before .args .out)) t (c .before .before .finish .result) (c .before .before .finish .last .1 .1 .1 .1 .0)) (ap (λ (x : Reading). printedFor (ended x)) e ∙ whole (denote.Ref.now (c .before .before .before .before .before .before .before .before .before .before .before .before .before .before .before .before .before .args .input))) (c .before .before .finish .ensures)
+    let a = c .before .before .before .before .before .before .before .before .before .before .before .before .before .before .before .before .before .args in
+    let s = c .before .before .before .before .before .before .before .before .step in
+    let f = c .before .before .finish in
+    let e : readingOf (s .result) (s .last .1 .0) ≡ withBytes (record { progress = atStart; tail = [] }) (a .input .now) = rw (c .before .before .before .before .before .before .before .before .before .before .before .before .start .ensures .0) at (s .ensures .0) in
+    subst (λ (t : List ℕ). Written (a .out .now) t (f .result) (f .last .1 .1 .1 .1 .0)) (ap (λ (x : Reading). printedFor (ended x)) e ∙ whole (a .input .now)) (f .ensures)
 
 pub print-input-spec : {M : Type 1} → statement M
 print-input-spec =

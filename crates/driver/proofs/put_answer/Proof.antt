@@ -1,11 +1,12 @@
-use Rattle.driver.proofs.Answers.{refusal-room, printed-refused, printed-empty, printed-end, closing-refused, closing-written}
-use Rattle.driver.specs.Printed.{printedAtEnd}
-use Rattle.report.specs.Line.{refusalLine}
+-- `put_answer` meets its contract.
 use mathlib.Core.Path.{_≡_}
 use Prim.Native.Nat.{ℕ}
 use native.Mathlib.Omega.{arith}
 use lib.ListN.{length}
 use borrow.Author.Needs.{needs}
+use Rattle.driver.proofs.Answers.{refusal-room, printed-refused, printed-empty, printed-end, closing-refused, closing-written}
+use Rattle.driver.specs.Printed.{printedAtEnd}
+use Rattle.report.specs.Line.{refusalLine}
 use Rattle.driver.proofs.put_answer.Statement.{statement}
 use Rattle.driver.proofs.put_answer.Tie as tie
 
