@@ -2,7 +2,7 @@
 // of the sum of their totals and of their supplements, as in a case of `try_loan_charge`. Printed is whether the sums lie in them.
 ghost use mathlib.Core.Path.{_≡_};
 ghost use Prim.Native.Nat.{_<_};
-ghost use Rattle.exponential.specs.Table.{entries};
+ghost use Rattle.loan_charge.specs.Tables.{exponentials};
 use cases::Range;
 use fixed_point::Signed;
 use loan_charge::charge::LoanCharge;
@@ -17,7 +17,7 @@ fn next(x: u64) -> u64
 
 // The charge of the loan of x: a value of 1 to 3.5 balances, either set of coefficients, m from 0.40 to 3.00.
 fn charge_of(x: u64, table: &[u64; 1537]) -> LoanCharge
-    requires { ⌜ (x < 2147483647) × (now table ≡ entries) ⌝ }
+    requires { ⌜ (x < 2147483647) × (now table ≡ exponentials) ⌝ }
 {
     let balance = 100000000 + x % 100000000;
     let value = balance + x / 8 % 250000000;
@@ -47,7 +47,7 @@ fn add_charge(a: LoanCharge, b: LoanCharge) -> LoanCharge {
 
 // The sums of the numbers of `count` loans.
 fn charge_all(count: u64, table: &[u64; 1537]) -> LoanCharge
-    requires { ⌜ now table ≡ entries ⌝ }
+    requires { ⌜ now table ≡ exponentials ⌝ }
 {
     let mut sums = LoanCharge {
         total: Signed { plus: 0, minus: 0 },
@@ -86,7 +86,7 @@ fn main() {
     let count = cases::number_at(&buf[0..n], 0);
     let total = cases::next_range(&buf[0..n], count);
     let supplement = cases::next_range(&buf[0..n], total.next);
-    let table = exponential::table();
+    let table = loan_charge::charge::table();
     let sums = charge_all(count.value, &table);
     let ok = is_within(sums.total, total) & is_within(sums.supplement, supplement);
     print_answer(count.value, ok);

@@ -81,28 +81,13 @@ fn call(b: Book, line: &[u8]) -> Book
     b
 }
 
-// The position of the first newline from `at` on, or the end.
-fn line_end(s: &[u8], at: usize) -> usize
-    requires { ⌜ at ≤ length (now s) ⌝ }
-    ensures { λ r. ⌜ (at ≤ r) × (r ≤ length (now (s .entry))) ⌝ }
-{
-    let mut i = at;
-    while i < s.len() {
-        if s[i] == b'\n' {
-            return i;
-        }
-        i = i + 1;
-    }
-    i
-}
-
 // The calls of the input, on the book of a refused opening at first.
 fn call_all(s: &[u8]) {
     let opened = book::open(b"");
     let mut b = opened.book;
     let mut at = 0;
     while at < s.len() {
-        let end = line_end(s, at);
+        let end = bytes::scan::find(s, at, s.len(), b'\n');
         b = call(b, &s[at..end]);
         at = end + 1;
     }

@@ -5,7 +5,7 @@
 ghost use mathlib.Core.Path.{_≡_};
 ghost use Prim.Native.Nat.{_+_, _<_, _≤_};
 ghost use lib.ListN.{length};
-ghost use Rattle.exponential.specs.Table.{entries};
+ghost use Rattle.loan_charge.specs.Tables.{exponentials};
 use cases::Number;
 use cases::Range;
 use cases::Tally;
@@ -91,7 +91,7 @@ fn charge_of(
     m: u64,
     table: &[u64; 1537],
 ) -> LoanCharge
-    requires { ⌜ now table ≡ entries ⌝ }
+    requires { ⌜ now table ≡ exponentials ⌝ }
 {
     if q < 1 {
         return refused();
@@ -134,7 +134,7 @@ fn print_charge(c: LoanCharge) {
 
 // A loan and the ranges of its two numbers.
 fn try_charge(s: &[u8], before: Number, table: &[u64; 1537]) -> Tried
-    requires { ⌜ (before .next ≤ length (now s)) × (now table ≡ entries) ⌝ }
+    requires { ⌜ (before .next ≤ length (now s)) × (now table ≡ exponentials) ⌝ }
     ensures { λ r. ⌜ (before .next ≤ r .next) × (r .next ≤ length (now (s .entry))) ⌝ }
 {
     let loan = read_loan(s, before);
@@ -211,7 +211,7 @@ fn try_factor(s: &[u8], before: Number, rates: &[u64; 66]) -> Tried
 }
 
 fn try_kind(s: &[u8], kind: Number, table: &[u64; 1537], rates: &[u64; 66]) -> Tried
-    requires { ⌜ (kind .next ≤ length (now s)) × (now table ≡ entries) ⌝ }
+    requires { ⌜ (kind .next ≤ length (now s)) × (now table ≡ exponentials) ⌝ }
     ensures { λ r. ⌜ (kind .next ≤ r .next) × (r .next ≤ length (now (s .entry))) ⌝ }
 {
     if kind.value == 1 {
@@ -221,7 +221,7 @@ fn try_kind(s: &[u8], kind: Number, table: &[u64; 1537], rates: &[u64; 66]) -> T
 }
 
 fn try_case(s: &[u8], at: usize, table: &[u64; 1537], rates: &[u64; 66]) -> Tried
-    requires { ⌜ (at < length (now s)) × (now table ≡ entries) ⌝ }
+    requires { ⌜ (at < length (now s)) × (now table ≡ exponentials) ⌝ }
     ensures { λ r. ⌜ (at < r .next) × (r .next ≤ length (now (s .entry))) ⌝ }
 {
     let kind = cases::number_at(s, at);
@@ -233,7 +233,7 @@ fn try_case(s: &[u8], at: usize, table: &[u64; 1537], rates: &[u64; 66]) -> Trie
 
 // The cases of one block of the input.
 fn try_cases(s: &[u8], before: Tally, table: &[u64; 1537], rates: &[u64; 66]) -> Tally
-    requires { ⌜ now table ≡ entries ⌝ }
+    requires { ⌜ now table ≡ exponentials ⌝ }
 {
     let mut tally = before;
     let mut at = 0;
@@ -247,7 +247,7 @@ fn try_cases(s: &[u8], before: Tally, table: &[u64; 1537], rates: &[u64; 66]) ->
 
 // Reads a block, which holds whole lines, and tries its cases.
 fn try_block(before: Block, table: &[u64; 1537], rates: &[u64; 66]) -> Block
-    requires { ⌜ now table ≡ entries ⌝ }
+    requires { ⌜ now table ≡ exponentials ⌝ }
 {
     let mut buf = io::large_buffer();
     let input = cases::read_input(&mut buf);
@@ -263,7 +263,7 @@ fn try_block(before: Block, table: &[u64; 1537], rates: &[u64; 66]) -> Block
 
 // The blocks of the input. Nothing says that it ends, so their number is counted down from one that no run uses up.
 fn try_all(table: &[u64; 1537], rates: &[u64; 66]) -> Tally
-    requires { ⌜ now table ≡ entries ⌝ }
+    requires { ⌜ now table ≡ exponentials ⌝ }
 {
     let mut block = Block {
         more: true,
@@ -284,7 +284,7 @@ fn try_all(table: &[u64; 1537], rates: &[u64; 66]) -> Tally
 }
 
 fn main() {
-    let table = exponential::table();
+    let table = loan_charge::charge::table();
     let rates = loan_charge::credit::rates();
     cases::print_tally(try_all(&table, &rates));
 }

@@ -21,8 +21,8 @@ open-requires c κs = search needs
 loop-holds : tie.Need-loop-holds Inv-loop μ-loop
 loop-holds c = search needs
 
-line-end-requires : tie.Need-line-end-requires Inv-loop μ-loop
-line-end-requires c κs = search needs
+find-requires : tie.Need-find-requires Inv-loop μ-loop
+find-requires c κs = search needs
 
 sub-call : tie.Need-sub-call Inv-loop μ-loop
 sub-call c = search needs
@@ -57,7 +57,7 @@ call-all-spec =
     slice-aggregate-open
     open-requires
     loop-holds
-    line-end-requires
+    find-requires
     sub-call
     part-call-start
     part-call-end
