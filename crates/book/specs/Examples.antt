@@ -7,7 +7,7 @@ use Rattle.exact.specs.Fraction.{quotient, whole, negated, _≈_}
 use Rattle.exact.specs.Text.{text}
 use Rattle.exact.specs.Examples.{Example1}
 use Rattle.loan_charge.specs.declared.Score.the-variants.{Scored, Unscored}
-use Rattle.loan_charge.specs.Coefficients.{curveA}
+use Rattle.coefficients.specs.Coefficients.{curveA}
 use Rattle.loan_charge.specs.CreditFactor.{creditFactor, builtInRates, hundredths}
 use Rattle.loan_charge.specs.Charge.{gaussExponent, valueRatio}
 use Rattle.other_charges.specs.Examples.{Example8, Example9}

@@ -18,14 +18,14 @@ use Rattle.exact.proofs.Sums.{num, den, num-pos}
 use Rattle.exponential.specs.Exponential.{expUpper}
 use Rattle.exponential.proofs.Laws as Exponential
 use Rattle.exact.specs.Choice.{pick}
-use Rattle.loan_charge.specs.Coefficients.{Curve, firstSet, curveA, curveB}
-use Rattle.loan_charge.specs.Integers.{Months, scaledA, scaledB, scaledC, tenthsB}
+use Rattle.coefficients.specs.Coefficients.{Curve, firstSet, curveA, curveB}
+use Rattle.coefficients.specs.Integers.{Months, scaledA, scaledB, scaledC, tenthsB}
 use Rattle.loan_charge.specs.Charge.{valueRatio, gaussExponent, exponent1, exponent2, exactBase, rateA, exactRate, exactSupplement, exactTotal, baseExponents, rateExponents, totalExponents, supplementExponents, totalQuantity, supplementQuantity, signedCents, tolerance, NearExact, Promised, InRange}
 use Rattle.loan_charge.specs.Computation.{scaleA, scaledValue, signed, height, heights, weighted, sum, times, roundedUp, roundedDown, none, baseUnits, rateUnits, chargeFrom, chargeOf, Chargeable}
-use Rattle.loan_charge.specs.declared.coefficients.ScaledCurve.{ScaledCurve}
+use Rattle.coefficients.specs.declared.ScaledCurve.{ScaledCurve}
 use Rattle.loan_charge.specs.declared.charge.LoanCharge.{LoanCharge}
 use Rattle.fixed_point.specs.declared.Signed.{Signed}
-use Rattle.loan_charge.proofs.CoefficientLaws.{Mean, Deviation, ScaledCurveOf, scaled-a, scaled-b, scaled-c, tenths-b}
+use Rattle.coefficients.proofs.CoefficientLaws.{Mean, Deviation, ScaledCurveOf, scaled-a, scaled-b, scaled-c, tenths-b}
 use Rattle.loan_charge.proofs.ExactValues.{ValueAt, cents, ratio-is, ratio-proper, exponent-at, curvePlus, curveMinus, curve-proper, curve-is, base-proper, base-is, rate-proper, rate-is, product-is, sum-is}
 use Rattle.loan_charge.proofs.Gauss.{gauss-near, months-near, value-at, exponentNum, exponentDen}
 use Rattle.loan_charge.proofs.Money.{Value, Both, Above, Below, AtMost, both-add, both-times, weighted-near, factor-near, rateNum, rateDen, rate-near, rate-most, rounded-above, rounded-below}

@@ -10,10 +10,10 @@ use Rattle.exact.proofs.Fractions
 use Rattle.exact.proofs.Fractions.{Positive}
 use Rattle.exact.proofs.Bridge.{At}
 use Rattle.exact.specs.Quantity.{Assignment}
-use Rattle.loan_charge.specs.Coefficients.{Curve}
+use Rattle.coefficients.specs.Coefficients.{Curve}
 use Rattle.loan_charge.specs.Charge.{valueRatio, gaussExponent, exponent1, exponent2, curveValue}
-use Rattle.loan_charge.specs.declared.coefficients.ScaledCurve.{ScaledCurve}
-use Rattle.loan_charge.proofs.CoefficientLaws.{ScaledCurveOf}
+use Rattle.coefficients.specs.declared.ScaledCurve.{ScaledCurve}
+use Rattle.coefficients.proofs.CoefficientLaws.{ScaledCurveOf}
 use Rattle.loan_charge.proofs.Gauss.{exponentNum, exponentDen}
 use Rattle.loan_charge.proofs.Money.{limitedNum, rateNum, rateDen}
 

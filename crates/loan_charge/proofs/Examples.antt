@@ -4,7 +4,7 @@ use mathlib.Core.Bool.{Bool, true, false}
 use mathlib.Core.Path.{_≡_, refl}
 use Rattle.exact.specs.Fraction.{quotient, whole, negated, _≈_}
 use Rattle.loan_charge.specs.Charge.{gaussExponent, valueRatio}
-use Rattle.loan_charge.specs.Coefficients.{curveA, weight1A, weight2A, deviation2A}
+use Rattle.coefficients.specs.Coefficients.{curveA, weight1A, weight2A, deviation2A}
 use Rattle.loan_charge.specs.CreditFactor.{hundredths, count, band, column, columnServing, builtInRates, scoredFactor, unscoredFactor, creditFactor}
 use Rattle.loan_charge.specs.declared.Score.the-variants.{Scored, Unscored}
 

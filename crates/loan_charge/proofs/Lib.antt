@@ -1,5 +1,4 @@
 pub mod ChargeLaws
-pub mod CoefficientLaws
 pub mod CreditLaws
 pub mod ExactValues
 pub mod Examples

@@ -8,7 +8,7 @@ use native.Mathlib.Nat.{mul-le-mul, mul-le-mul-left, mul-le-mul-right, add-le-ad
 use Rattle.fixed_point.specs.Quotient.{scaledProduct}
 use Rattle.loan_charge.specs.declared.charge.Heights.{Heights}
 use Rattle.fixed_point.specs.declared.Signed.{Signed}
-use Rattle.loan_charge.specs.declared.coefficients.ScaledCurve.{ScaledCurve}
+use Rattle.coefficients.specs.declared.ScaledCurve.{ScaledCurve}
 use Rattle.loan_charge.specs.Computation.{unit, limit, limited, raised, lowered, weighted, factor, rate, sum, times, signed, roundedUp, roundedDown}
 use Rattle.loan_charge.proofs.Near.{Near, Floored, near-add, near-mul, near-equal, near-scale, near-self, near-widen}
 use Rattle.loan_charge.proofs.ScaledValue.{Held}

@@ -6,7 +6,7 @@ use mathlib.Core.List.{List, [], _∷_, _++_}
 use Rattle.exact.specs.Fraction.{Fraction, Proper, quotient, whole, reciprocal, larger, smaller, _⊕_, _⊖_, _⊗_, _≼_, _≺_}
 use Rattle.exact.specs.Quantity.{Assignment, Quantity, AtMost, ExceedsByLess, NeverAbove, LessBelow, SomeAllowed}
 use Rattle.exact.specs.Choice.{upTo}
-use Rattle.loan_charge.specs.Coefficients.{Curve, firstSet, curveA, curveB, rateC, rateB}
+use Rattle.coefficients.specs.Coefficients.{Curve, firstSet, curveA, curveB, rateC, rateB}
 use Rattle.loan_charge.specs.declared.charge.LoanCharge.{LoanCharge}
 use Rattle.fixed_point.specs.declared.Signed.{Signed}
 

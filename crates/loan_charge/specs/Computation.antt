@@ -4,12 +4,12 @@ use Prim.Native.Nat.{ℕ, _+_, _*_, _-_, _/_, _^_, _≤_, _<_, min, max}
 use mathlib.Core.Bool.{Bool, true, false}
 use Rattle.fixed_point.specs.Quotient.{scaledProduct}
 use Rattle.exponential.specs.Exponential.{expUpper}
-use Rattle.loan_charge.specs.Coefficients.{firstSet}
-use Rattle.loan_charge.specs.Integers.{scaledA, scaledB, scaledC, tenthsB}
+use Rattle.coefficients.specs.Coefficients.{firstSet}
+use Rattle.coefficients.specs.Integers.{scaledA, scaledB, scaledC, tenthsB}
 use Rattle.loan_charge.specs.declared.charge.Heights.{Heights}
 use Rattle.loan_charge.specs.declared.charge.LoanCharge.{LoanCharge}
 use Rattle.fixed_point.specs.declared.Signed.{Signed}
-use Rattle.loan_charge.specs.declared.coefficients.ScaledCurve.{ScaledCurve}
+use Rattle.coefficients.specs.declared.ScaledCurve.{ScaledCurve}
 
 -- the units in which z is carried: so many to 1
 abbrev pub unit : ℕ

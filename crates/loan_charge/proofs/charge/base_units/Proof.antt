@@ -3,7 +3,7 @@ use Prim.Native.Nat.{_+_}
 use native.Mathlib.Omega.{arith}
 use Rattle.loan_charge.proofs.Sizes.{usable-a, usable-b, weighted-a-most, weighted-b-most, sum-most, factor-most}
 use Rattle.fixed_point.specs.declared.Signed.{Signed}
-use Rattle.loan_charge.specs.declared.coefficients.ScaledCurve.{ScaledCurve}
+use Rattle.coefficients.specs.declared.ScaledCurve.{ScaledCurve}
 use Rattle.loan_charge.specs.Computation.{scaleA, Usable, heights, weighted, sum, times}
 use Rattle.loan_charge.proofs.Money.{AtMost}
 use mathlib.Core.Path.{subst⁻¹, ap₂}

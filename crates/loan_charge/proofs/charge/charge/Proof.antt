@@ -3,7 +3,7 @@ use Prim.Native.Nat.{ℕ}
 use native.Mathlib.Omega.{arith}
 use mathlib.Core.Path.{ap₂, subst⁻¹}
 use mathlib.Core.Bool.{Bool, true, false}
-use Rattle.loan_charge.specs.Coefficients.{firstSet}
+use Rattle.coefficients.specs.Coefficients.{firstSet}
 use Rattle.loan_charge.specs.Computation.{scaledValue, baseUnits, rateUnits, chargeFrom, chargeOf}
 use Rattle.fixed_point.specs.declared.Signed.{Signed}
 use Rattle.loan_charge.proofs.Money.{AtMost}

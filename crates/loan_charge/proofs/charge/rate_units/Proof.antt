@@ -3,7 +3,7 @@ use Prim.Native.Nat.{_*_}
 use native.Mathlib.Omega.{arith}
 use Rattle.exponential.proofs.Laws as Exponential
 use Prim.Native.Nat.{_/_, _^_}
-use Rattle.loan_charge.proofs.CoefficientLaws.{scaled-c, tenths-b}
+use Rattle.coefficients.proofs.CoefficientLaws.{scaled-c, tenths-b}
 use Rattle.loan_charge.specs.Computation.{rateUnits}
 use borrow.Author.Needs.{needs}
 use Rattle.loan_charge.proofs.charge.rate_units.Statement.{statement}

@@ -1,8 +1,8 @@
 -- b: each choice and difference is what its call ensures.
 use borrow.Author.Needs.{needs}
-use Rattle.loan_charge.specs.Integers.{tenthsB}
-use Rattle.loan_charge.proofs.coefficients.rate_b.Statement.{statement}
-use Rattle.loan_charge.proofs.coefficients.rate_b.Tie as tie
+use Rattle.coefficients.specs.Integers.{tenthsB}
+use Rattle.coefficients.proofs.rate_b.Statement.{statement}
+use Rattle.coefficients.proofs.rate_b.Tie as tie
 
 up-to-requires : tie.Need-up-to-requires
 up-to-requires c κs = search needs

@@ -1,8 +1,8 @@
 -- The pieces of B, first set: each choice and difference is what its call ensures.
 use borrow.Author.Needs.{needs}
-use Rattle.loan_charge.specs.Integers.{scaledB}
-use Rattle.loan_charge.proofs.coefficients.first_b.Statement.{statement}
-use Rattle.loan_charge.proofs.coefficients.first_b.Tie as tie
+use Rattle.coefficients.specs.Integers.{scaledB}
+use Rattle.coefficients.proofs.first_b.Statement.{statement}
+use Rattle.coefficients.proofs.first_b.Tie as tie
 
 mul-up-to : tie.Need-mul-up-to
 mul-up-to c = search needs

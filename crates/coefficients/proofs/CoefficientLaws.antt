@@ -7,9 +7,9 @@ use borrow.Author.Needs.{needs}
 use borrow.Author.Tests.{leb-true, leb-false}
 use Rattle.exact.specs.Fraction.{Fraction, Proper, quotient, _≈_}
 use Rattle.exact.specs.Choice.{pick, upTo}
-use Rattle.loan_charge.specs.Coefficients.{Curve, curveA, curveB, weight1A, deviation1A, weight2A, deviation2A, weight1B, mean1B, deviation1B, weight2B, mean2B, deviation2B, rateC, rateB}
-use Rattle.loan_charge.specs.Integers.{Months, scaledA, scaledB, scaledC, tenthsB}
-use Rattle.loan_charge.specs.declared.coefficients.ScaledCurve.{ScaledCurve}
+use Rattle.coefficients.specs.Coefficients.{Curve, curveA, curveB, weight1A, deviation1A, weight2A, deviation2A, weight1B, mean1B, deviation1B, weight2B, mean2B, deviation2B, rateC, rateB}
+use Rattle.coefficients.specs.Integers.{Months, scaledA, scaledB, scaledC, tenthsB}
+use Rattle.coefficients.specs.declared.ScaledCurve.{ScaledCurve}
 
 -- x is i / over, and i lies between low and high
 pub record Scaled (over low high : ℕ) (x : Fraction) (i : ℕ) : Type 0 where

@@ -1,8 +1,8 @@
 -- B: each choice and difference is what its call ensures.
 use borrow.Author.Needs.{needs}
-use Rattle.loan_charge.specs.Integers.{scaledB}
-use Rattle.loan_charge.proofs.coefficients.curve_b.Statement.{statement}
-use Rattle.loan_charge.proofs.coefficients.curve_b.Tie as tie
+use Rattle.coefficients.specs.Integers.{scaledB}
+use Rattle.coefficients.proofs.curve_b.Statement.{statement}
+use Rattle.coefficients.proofs.curve_b.Tie as tie
 
 first-b-requires : tie.Need-first-b-requires
 first-b-requires c κs = search needs

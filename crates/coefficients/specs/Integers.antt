@@ -3,7 +3,7 @@
 use Prim.Native.Nat.{ℕ, _+_, _*_, _-_, _≤_}
 use mathlib.Core.Bool.{Bool, true, false}
 use Rattle.exact.specs.Choice.{upTo}
-use Rattle.loan_charge.specs.declared.coefficients.ScaledCurve.{ScaledCurve}
+use Rattle.coefficients.specs.declared.ScaledCurve.{ScaledCurve}
 
 -- a remaining amortization in months, as a line can have it
 pub record Months (n : ℕ) : Type 0 where

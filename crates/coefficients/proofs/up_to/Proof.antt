@@ -1,7 +1,7 @@
 -- `up_to` meets its contract: the test that was taken is the test of the definition.
 use borrow.Author.Tests.{le-leb, lt-leb}
-use Rattle.loan_charge.proofs.coefficients.up_to.Statement.{statement}
-use Rattle.loan_charge.proofs.coefficients.up_to.Tie as tie
+use Rattle.coefficients.proofs.up_to.Statement.{statement}
+use Rattle.coefficients.proofs.up_to.Tie as tie
 
 returns : tie.Need-returns
 returns c = simp (le-leb _ _ (c .if1 .taken))

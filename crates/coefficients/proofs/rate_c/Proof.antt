@@ -1,8 +1,8 @@
 -- c: each choice and difference is what its call ensures.
 use borrow.Author.Needs.{needs}
-use Rattle.loan_charge.specs.Integers.{scaledC}
-use Rattle.loan_charge.proofs.coefficients.rate_c.Statement.{statement}
-use Rattle.loan_charge.proofs.coefficients.rate_c.Tie as tie
+use Rattle.coefficients.specs.Integers.{scaledC}
+use Rattle.coefficients.proofs.rate_c.Statement.{statement}
+use Rattle.coefficients.proofs.rate_c.Tie as tie
 
 mul-minus : tie.Need-mul-minus
 mul-minus c = search needs

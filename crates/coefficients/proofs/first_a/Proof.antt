@@ -1,8 +1,8 @@
 -- The pieces of A, first set: each choice and difference is what its call ensures.
 use borrow.Author.Needs.{needs}
-use Rattle.loan_charge.specs.Integers.{scaledA}
-use Rattle.loan_charge.proofs.coefficients.first_a.Statement.{statement}
-use Rattle.loan_charge.proofs.coefficients.first_a.Tie as tie
+use Rattle.coefficients.specs.Integers.{scaledA}
+use Rattle.coefficients.proofs.first_a.Statement.{statement}
+use Rattle.coefficients.proofs.first_a.Tie as tie
 
 mul-up-to : tie.Need-mul-up-to
 mul-up-to c = search needs

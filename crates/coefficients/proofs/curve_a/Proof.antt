@@ -1,8 +1,8 @@
 -- A: each choice and difference is what its call ensures.
 use borrow.Author.Needs.{needs}
-use Rattle.loan_charge.specs.Integers.{scaledA}
-use Rattle.loan_charge.proofs.coefficients.curve_a.Statement.{statement}
-use Rattle.loan_charge.proofs.coefficients.curve_a.Tie as tie
+use Rattle.coefficients.specs.Integers.{scaledA}
+use Rattle.coefficients.proofs.curve_a.Statement.{statement}
+use Rattle.coefficients.proofs.curve_a.Tie as tie
 
 first-a-requires : tie.Need-first-a-requires
 first-a-requires c κs = search needs
