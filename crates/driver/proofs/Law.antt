@@ -13,8 +13,8 @@ use Rattle.report.specs.Line.{refusalLine}
 use Rattle.line_forms.specs.declared.Line.the-variants.{Refusal}
 use Rattle.line_forms.specs.declared.HeaderLine.the-variants.{Refusal as HeaderRefusal}
 use Rattle.line_forms.specs.Readings.{lineOf, headerOf}
-use Rattle.book.specs.declared.Book.{Book}
-use Rattle.book.specs.Calls.{opening, feeding}
+use Rattle.book_model.specs.declared.Book.{Book}
+use Rattle.book_model.specs.Calls.{opening, feeding}
 use Rattle.driver.specs.declared.Progress.{Progress}
 use Rattle.driver.specs.Reading.{Reading, atStart, after, newline, kept, withLine, withByte, withBytes, readingOf}
 use Rattle.driver.specs.declared.Run.{Run}

@@ -1,7 +1,7 @@
-use Rattle.book.specs.Accepted.{loanBeyond}
-use Rattle.book.specs.Share.{loanShare}
-use Rattle.book.specs.Terms.{termsWith}
-use Rattle.book.proofs.Feeding.{refused-is, taken-is, loan-asks}
+use Rattle.book_model.specs.Accepted.{loanBeyond}
+use Rattle.book_model.specs.Share.{loanShare}
+use Rattle.book_model.specs.Terms.{termsWith}
+use Rattle.book_model.proofs.Feeding.{refused-is, taken-is, loan-asks}
 use borrow.Author.Needs.{needs}
 use Rattle.book.proofs.add_loan.Statement.{statement}
 use Rattle.book.proofs.add_loan.Tie as tie

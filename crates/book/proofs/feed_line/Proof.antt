@@ -2,11 +2,11 @@ use mathlib.Core.Path.{subst}
 use Rattle.line_forms.specs.declared.Line.{Line}
 use Rattle.line_forms.specs.declared.Line.the-variants.{Loan as LoanLine, Policy as PolicyLine, Derivative as DerivativeLine, Asset as AssetLine, Amount as AmountLine, Refusal}
 use Rattle.figures.specs.Sums.{Bounded}
-use Rattle.book.specs.Calls.{CountsOne}
-use Rattle.book.specs.Ranges.{Ranged, PolicyRanges, AmountRanges}
-use Rattle.book.specs.Share.{share}
-use Rattle.book.specs.Terms.{termsWith}
-use Rattle.book.proofs.Feeding.{fed-loan, fed-other, fed-refused, other-asks}
+use Rattle.book_model.specs.Calls.{CountsOne}
+use Rattle.book_model.specs.Ranges.{Ranged, PolicyRanges, AmountRanges}
+use Rattle.book_model.specs.Share.{share}
+use Rattle.book_model.specs.Terms.{termsWith}
+use Rattle.book_model.proofs.Feeding.{fed-loan, fed-other, fed-refused, other-asks}
 use mathlib.Core.Path.{_≡_, refl}
 use borrow.Author.Needs.{needs}
 use Rattle.book.proofs.feed_line.Statement.{statement}

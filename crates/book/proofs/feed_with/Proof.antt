@@ -1,10 +1,10 @@
 use Rattle.line_forms.specs.declared.Line.the-variants.{Refusal}
 use mathlib.Core.Path.{subst}
 use Rattle.line_forms.specs.Readings.{lineOf}
-use Rattle.book.specs.declared.Fed.{Fed}
-use Rattle.book.specs.Calls.{feeding, Sound}
-use Rattle.book.proofs.Feeding.{fed-sound, fed-refused}
-use Rattle.book.proofs.Ranged.{ranged}
+use Rattle.book_model.specs.declared.Fed.{Fed}
+use Rattle.book_model.specs.Calls.{feeding, Sound}
+use Rattle.book_model.proofs.Feeding.{fed-sound, fed-refused}
+use Rattle.book_model.proofs.Ranged.{ranged}
 use mathlib.Core.Path.{_≡_, sym}
 use borrow.Author.Needs.{needs}
 use Rattle.book.proofs.feed_with.Statement.{statement}

@@ -1,9 +1,9 @@
 use mathlib.Core.Path.{subst}
 use Rattle.line_forms.specs.Readings.{headerOf}
-use Rattle.book.specs.declared.Opened.{Opened}
-use Rattle.book.specs.Calls.{openingFor, opening, Sound}
-use Rattle.book.proofs.Feeding.{opening-sound}
-use Rattle.book.proofs.Ranged.{ranged-header}
+use Rattle.book_model.specs.declared.Opened.{Opened}
+use Rattle.book_model.specs.Calls.{openingFor, opening, Sound}
+use Rattle.book_model.proofs.Feeding.{opening-sound}
+use Rattle.book_model.proofs.Ranged.{ranged-header}
 use mathlib.Core.Path.{_≡_, sym}
 use borrow.Author.Needs.{needs}
 use Rattle.book.proofs.open.Statement.{statement}

@@ -1,5 +1,5 @@
 use Rattle.exact.specs.Text.{text}
-use Rattle.book.specs.Report.{unsigned, valueLine}
+use Rattle.book_model.specs.Report.{unsigned, valueLine}
 use Rattle.report.proofs.Lines.{value-line-length}
 use Rattle.report.proofs.Onto.{written-more}
 use Prim.Native.Nat.{_≤_}

@@ -1,7 +1,7 @@
 use Rattle.exact.specs.Text.{text}
 use Rattle.figures.specs.declared.Ratio.the-variants.{Number, None}
 use Rattle.report.proofs.Lines.{value-line-length}
-use Rattle.book.specs.Report.{ratioLine}
+use Rattle.book_model.specs.Report.{ratioLine}
 use mathlib.Core.Path.{_≡_}
 use native.Mathlib.Omega.{arith}
 use borrow.Author.Needs.{needs}

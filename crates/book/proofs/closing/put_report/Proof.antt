@@ -1,4 +1,4 @@
-use Rattle.book.specs.Report.{reportText}
+use Rattle.book_model.specs.Report.{reportText}
 use Rattle.report.proofs.Onto.{written-more}
 use native.Mathlib.Omega.{arith}
 use borrow.Author.Needs.{needs}

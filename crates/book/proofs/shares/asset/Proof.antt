@@ -1,4 +1,4 @@
-use Rattle.book.specs.Share.{assetShare}
+use Rattle.book_model.specs.Share.{assetShare}
 use borrow.Author.Needs.{needs}
 use Rattle.book.proofs.shares.asset.Statement.{statement}
 use Rattle.book.proofs.shares.asset.Tie as tie

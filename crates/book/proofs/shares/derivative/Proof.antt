@@ -1,4 +1,4 @@
-use Rattle.book.specs.Share.{derivativeShare}
+use Rattle.book_model.specs.Share.{derivativeShare}
 use borrow.Author.Needs.{needs}
 use Rattle.book.proofs.shares.derivative.Statement.{statement}
 use Rattle.book.proofs.shares.derivative.Tie as tie

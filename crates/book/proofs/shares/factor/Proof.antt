@@ -1,4 +1,4 @@
-use Rattle.book.specs.Terms.{factorFor}
+use Rattle.book_model.specs.Terms.{factorFor}
 use borrow.Author.Needs.{needs}
 use Rattle.book.proofs.shares.factor.Statement.{statement}
 use Rattle.book.proofs.shares.factor.Tie as tie

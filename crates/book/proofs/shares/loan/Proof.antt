@@ -1,7 +1,7 @@
-use Rattle.book.proofs.Near.{chargeable}
-use Rattle.book.proofs.Required.{good-terms}
-use Rattle.book.specs.Share.{loanNumbers}
-use Rattle.book.specs.Share.{loanShare}
+use Rattle.book_model.proofs.Near.{chargeable}
+use Rattle.book_model.proofs.Required.{good-terms}
+use Rattle.book_model.specs.Share.{loanNumbers}
+use Rattle.book_model.specs.Share.{loanShare}
 use borrow.Author.Needs.{needs}
 use Rattle.book.proofs.shares.loan.Statement.{statement}
 use Rattle.book.proofs.shares.loan.Tie as tie

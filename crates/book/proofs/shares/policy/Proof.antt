@@ -1,4 +1,4 @@
-use Rattle.book.specs.Share.{policyShare}
+use Rattle.book_model.specs.Share.{policyShare}
 use borrow.Author.Needs.{needs}
 use Rattle.book.proofs.shares.policy.Statement.{statement}
 use Rattle.book.proofs.shares.policy.Tie as tie

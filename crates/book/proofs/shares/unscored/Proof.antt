@@ -1,4 +1,4 @@
-use Rattle.book.specs.Share.{unscoredCount}
+use Rattle.book_model.specs.Share.{unscoredCount}
 use borrow.Author.Needs.{needs}
 use Rattle.book.proofs.shares.unscored.Statement.{statement}
 use Rattle.book.proofs.shares.unscored.Tie as tie

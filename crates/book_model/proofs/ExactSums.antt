@@ -24,10 +24,10 @@ use Rattle.figures.specs.Sums.{sumOf, inParts, moneyOf, moneySum, noSums, plus}
 use lib.Dec.{lit<}
 use Rattle.figures.specs.Figures.{wholeCents}
 use Rattle.figures.proofs.SumsLaws.{money-whole, money-added}
-use Rattle.book.specs.Terms.{Terms}
-use Rattle.book.specs.Share.{share, loanShare, policyShare, derivativeShare, assetShare, amountShare}
-use Rattle.book.specs.Exact.{policyRest, amountRest, restOf, policyMoved, movedOf, sumOver}
-use Rattle.book.specs.History.{sumsOf}
+use Rattle.book_model.specs.Terms.{Terms}
+use Rattle.book_model.specs.Share.{share, loanShare, policyShare, derivativeShare, assetShare, amountShare}
+use Rattle.book_model.specs.Exact.{policyRest, amountRest, restOf, policyMoved, movedOf, sumOver}
+use Rattle.book_model.specs.History.{sumsOf}
 
 -- what is no charge
 nothing : InParts (whole 0) 0

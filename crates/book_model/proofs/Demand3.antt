@@ -9,7 +9,7 @@ use lib.Dec.{eqb, ltb, eqb→eq}
 use lib.ListN.{length, take, drop, length-append}
 use lib.Seq.{take-at}
 use borrow.Author.Tests.{eq-eqb}
-use Rattle.book.specs.declared.Closed.{Closed}
+use Rattle.book_model.specs.declared.Closed.{Closed}
 use Rattle.exact.specs.Choice.{pick}
 use Rattle.exact.specs.Fraction.{whole, _⊕_, _≼_, _≺_}
 use Rattle.exact.specs.Quantity.{Eventually}
@@ -23,25 +23,25 @@ use Rattle.figures.specs.declared.Sums.{Sums}
 use Rattle.figures.specs.Sums.{sumOf}
 use Rattle.figures.specs.Figures.{figuresOf}
 use Rattle.report.specs.Line.{onto}
-use Rattle.book.specs.declared.Book.{Book}
-use Rattle.book.specs.declared.Fed.{Fed}
-use Rattle.book.specs.Terms.{Terms, termsWith}
-use Rattle.book.specs.Accepted.{isLoan, countOf, refusalOf, accept}
-use Rattle.book.specs.Exact.{requirement}
-use Rattle.book.specs.Calls.{openingFor, opening, wanting, closing, closed, closingRefusal, reportOf}
-use Rattle.book.specs.History.{History, opened, fed, headerIn, along, termsOf, acceptedOf, standing, sumsOf, bookOf}
-use Rattle.book.specs.Share.{share}
+use Rattle.book_model.specs.declared.Book.{Book}
+use Rattle.book_model.specs.declared.Fed.{Fed}
+use Rattle.book_model.specs.Terms.{Terms, termsWith}
+use Rattle.book_model.specs.Accepted.{isLoan, countOf, refusalOf, accept}
+use Rattle.book_model.specs.Exact.{requirement}
+use Rattle.book_model.specs.Calls.{openingFor, opening, wanting, closing, closed, closingRefusal, reportOf}
+use Rattle.book_model.specs.History.{History, opened, fed, headerIn, along, termsOf, acceptedOf, standing, sumsOf, bookOf}
+use Rattle.book_model.specs.Share.{share}
 use Rattle.line_forms.specs.Readings.{lineOf}
 use Rattle.figures.proofs.SumsLaws.{sum-permuted}
 use Rattle.report.specs.Decimal.{digits, signed}
 use Rattle.report.proofs.Decimal.{digits-value, signed-positive}
-use Rattle.book.specs.Report.{unsigned, valueLine, ratioLine, headText, reportText}
-use Rattle.book.specs.Demand3.{figuresFor, reportFor, afterLines, centsPerLoan, allowance, Closes, Measured, SameReports, Demand3}
-use Rattle.book.proofs.Bounds.{Near}
-use Rattle.book.proofs.Required.{good-terms, requiredFor, near, list-exponents}
+use Rattle.book_model.specs.Report.{unsigned, valueLine, ratioLine, headText, reportText}
+use Rattle.book_model.specs.Demand3.{figuresFor, reportFor, afterLines, centsPerLoan, allowance, Closes, Measured, SameReports, Demand3}
+use Rattle.book_model.proofs.Bounds.{Near}
+use Rattle.book_model.proofs.Required.{good-terms, requiredFor, near, list-exponents}
 use native.Mathlib.Nat.{sub-zero}
-use Rattle.book.proofs.Steps.{Counts, counts, step}
-use Rattle.book.proofs.ExactSums.{rest-sum, moved-sum, rounded-is}
+use Rattle.book_model.proofs.Steps.{Counts, counts, step}
+use Rattle.book_model.proofs.ExactSums.{rest-sum, moved-sum, rounded-is}
 
 -- The book after a list of lines is the book of the accepted lines.
 

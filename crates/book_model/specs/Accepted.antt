@@ -9,7 +9,7 @@ use Rattle.line_forms.specs.declared.Header.{Header}
 use Rattle.line_forms.specs.declared.Line.{Line}
 use Rattle.line_forms.specs.declared.Line.the-variants.{Loan as LoanLine, Policy as PolicyLine, Derivative as DerivativeLine, Asset as AssetLine, Amount as AmountLine, Refusal}
 use Rattle.line_forms.specs.Readings.{lineOf}
-use Rattle.book.specs.Share.{unscoredCount}
+use Rattle.book_model.specs.Share.{unscoredCount}
 
 -- whether a line is a loan, a loan without a score, or another line: 1, or else 0
 unfoldable pub isLoan : Line → ℕ

@@ -9,7 +9,7 @@ use Rattle.line_forms.specs.declared.HeaderLine.{HeaderLine}
 use Rattle.line_forms.specs.declared.HeaderLine.the-variants.{Header as HeaderRead, Refusal as HeaderRefusal}
 use Rattle.line_forms.specs.Readings.{lineOf, headerOf}
 use Rattle.line_forms.proofs.Bounds.{LoanBounds, loan-bounds, PolicyBounds, policy-bounds, DerivativeBounds, derivative-bounds, AssetBounds, asset-bounds, AmountBounds, amount-bounds, HeaderBounds, header-bounds}
-use Rattle.book.specs.Ranges.{Ranged, RangedHeader}
+use Rattle.book_model.specs.Ranges.{Ranged, RangedHeader}
 
 pub ranged : (s : List ℕ) → Ranged (lineOf s)
 ranged s = go (lineOf s) refl

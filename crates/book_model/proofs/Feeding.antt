@@ -18,16 +18,16 @@ use Rattle.line_forms.specs.declared.Line.the-variants.{Loan as LoanLine, Polic
 use Rattle.figures.specs.declared.Sums.{Sums}
 use Rattle.figures.specs.Sums.{Bounded, InLimits, plus, noSums}
 use Rattle.figures.proofs.SumsLaws.{plus-bounded, none-bounded, plus-none}
-use Rattle.book.specs.declared.Book.{Book}
-use Rattle.book.specs.declared.Fed.{Fed}
-use Rattle.book.specs.Ranges.{LoanRanges, Ranged, HeaderRanges, RangedHeader}
-use Rattle.book.specs.Terms.{Terms, termsWith}
-use Rattle.book.specs.Share.{unscoredCount, share, loanShare}
-use Rattle.book.specs.Accepted.{isLoan, isUnscored, isOther, loanBeyond, otherBeyond, refusalFor}
-use Rattle.book.specs.Calls.{zeroHeader, emptyBook, openingFor, added, feedingLine, Sound, CountsOne}
-use Rattle.book.proofs.Required.{good-terms}
-use Rattle.book.proofs.BoundedShares.{share-bounded, loan-bounded}
-use Rattle.book.proofs.Steps.{Counted, counted}
+use Rattle.book_model.specs.declared.Book.{Book}
+use Rattle.book_model.specs.declared.Fed.{Fed}
+use Rattle.book_model.specs.Ranges.{LoanRanges, Ranged, HeaderRanges, RangedHeader}
+use Rattle.book_model.specs.Terms.{Terms, termsWith}
+use Rattle.book_model.specs.Share.{unscoredCount, share, loanShare}
+use Rattle.book_model.specs.Accepted.{isLoan, isUnscored, isOther, loanBeyond, otherBeyond, refusalFor}
+use Rattle.book_model.specs.Calls.{zeroHeader, emptyBook, openingFor, added, feedingLine, Sound, CountsOne}
+use Rattle.book_model.proofs.Required.{good-terms}
+use Rattle.book_model.proofs.BoundedShares.{share-bounded, loan-bounded}
+use Rattle.book_model.proofs.Steps.{Counted, counted}
 
 -- A line that is refused where the test holds, with the number n, which is not 0.
 pub fed-tested : (test : Bool) (n : ℕ) (b : Book) (s : Sums) → eqb n 0 ≡ false → record { refusal = pick test n 0; book = pick (eqb (pick test n 0) 0) (record { header = b .header; sums = plus (b .sums) s }) b } ≡ added test n b s

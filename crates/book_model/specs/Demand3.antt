@@ -12,13 +12,13 @@ use Rattle.figures.specs.Figures.{figuresFrom}
 use Rattle.report.specs.Decimal.{digits, valueOf}
 use Rattle.report.specs.Line.{line, onto}
 use Rattle.exact.specs.Text.{text}
-use Rattle.book.specs.declared.Book.{Book}
-use Rattle.book.specs.Terms.{Terms}
-use Rattle.book.specs.Accepted.{isLoan, isUnscored, countOf, refusalOf, accept}
-use Rattle.book.specs.Exact.{restOf, movedOf, sumOver, requirement}
-use Rattle.book.specs.Report.{reportText}
-use Rattle.book.specs.Calls.{opening, feeding, closing, closed, closingRefusal}
-use Rattle.book.specs.History.{History, opened, fed, along, termsOf, standing, sumsOf}
+use Rattle.book_model.specs.declared.Book.{Book}
+use Rattle.book_model.specs.Terms.{Terms}
+use Rattle.book_model.specs.Accepted.{isLoan, isUnscored, countOf, refusalOf, accept}
+use Rattle.book_model.specs.Exact.{restOf, movedOf, sumOver, requirement}
+use Rattle.book_model.specs.Report.{reportText}
+use Rattle.book_model.specs.Calls.{opening, feeding, closing, closed, closingRefusal}
+use Rattle.book_model.specs.History.{History, opened, fed, along, termsOf, standing, sumsOf}
 
 -- The report computed from the header and the lines taken: the exact rest and moved are rounded up once.
 unfoldable pub figuresFor : Terms → List (List ℕ) → Figures

@@ -24,7 +24,7 @@ use Rattle.other_charges.specs.Parts.{assetParts, shareParts, derivativeParts, 
 use Rattle.figures.specs.declared.Money.{Money}
 use Rattle.figures.specs.declared.Sums.{Sums}
 use Rattle.figures.specs.Sums.{noSums, zeroSigned, zeroMoney, moneyOf}
-use Rattle.book.specs.Terms.{Terms, factorFor}
+use Rattle.book_model.specs.Terms.{Terms, factorFor}
 
 -- 1 for a loan without a score, else 0
 unfoldable pub unscoredCount : Score → ℕ

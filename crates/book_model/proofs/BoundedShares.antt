@@ -21,10 +21,10 @@ use Rattle.other_charges.specs.Charges.{provisionTenths, addOnThousandths}
 use Rattle.other_charges.specs.Parts.{assetParts, shareParts, derivativeParts, provisionParts}
 use Rattle.other_charges.proofs.ChargeLaws.{tenths-bounded, add-on-bounded}
 use Rattle.figures.specs.Sums.{Bounded}
-use Rattle.book.specs.Ranges.{LoanRanges, DerivativeRanges, AssetRanges, Ranged}
-use Rattle.book.specs.Terms.{Terms, factorFor}
-use Rattle.book.specs.Share.{unscoredCount, share, loanShare, loanNumbers, restShare, policyShare, derivativeShare, assetShare, amountShare}
-use Rattle.book.proofs.Near.{GoodTerms, chargeable}
+use Rattle.book_model.specs.Ranges.{LoanRanges, DerivativeRanges, AssetRanges, Ranged}
+use Rattle.book_model.specs.Terms.{Terms, factorFor}
+use Rattle.book_model.specs.Share.{unscoredCount, share, loanShare, loanNumbers, restShare, policyShare, derivativeShare, assetShare, amountShare}
+use Rattle.book_model.proofs.Near.{GoodTerms, chargeable}
 
 -- Charges in ten-millionths
 

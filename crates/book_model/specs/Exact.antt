@@ -16,8 +16,8 @@ use Rattle.line_forms.specs.declared.Line.{Line}
 use Rattle.line_forms.specs.declared.Line.the-variants.{Loan as LoanLine, Policy as PolicyLine, Derivative as DerivativeLine, Asset as AssetLine, Amount as AmountLine, Refusal}
 use Rattle.line_forms.specs.Readings.{lineOf}
 use Rattle.other_charges.specs.Charges.{assetCharge, shareCharge, claimsPercent, lossComponentsPercent, statedPercent, derivativeCharge, provision, multiProvision}
-use Rattle.book.specs.Terms.{Terms, factorFor}
-use Rattle.book.specs.Requirement.{exactRequired}
+use Rattle.book_model.specs.Terms.{Terms, factorFor}
+use Rattle.book_model.specs.Requirement.{exactRequired}
 
 -- plus - minus
 abbrev pub signedFraction : Signed → Fraction

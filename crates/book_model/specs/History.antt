@@ -7,11 +7,11 @@ use Rattle.line_forms.specs.declared.HeaderLine.the-variants.{Header as HeaderR
 use Rattle.line_forms.specs.Readings.{lineOf, headerOf}
 use Rattle.figures.specs.declared.Sums.{Sums}
 use Rattle.figures.specs.Sums.{sumOf}
-use Rattle.book.specs.declared.Book.{Book}
-use Rattle.book.specs.Terms.{Terms, termsWith}
-use Rattle.book.specs.Share.{share}
-use Rattle.book.specs.Accepted.{Accepted, accept}
-use Rattle.book.specs.Calls.{zeroHeader}
+use Rattle.book_model.specs.declared.Book.{Book}
+use Rattle.book_model.specs.Terms.{Terms, termsWith}
+use Rattle.book_model.specs.Share.{share}
+use Rattle.book_model.specs.Accepted.{Accepted, accept}
+use Rattle.book_model.specs.Calls.{zeroHeader}
 
 pub data History : Type 0 where
   opened : (header : List ℕ) → History

@@ -12,8 +12,8 @@ use Rattle.loan_charge.specs.CreditFactor.{creditFactor, builtInRates, hundredt
 use Rattle.loan_charge.specs.Charge.{gaussExponent, valueRatio}
 use Rattle.other_charges.specs.Examples.{Example8, Example9}
 use Rattle.figures.specs.Figures.{positiveEquity, admittedB, admittedC}
-use Rattle.book.specs.History.{History, opened, along, termsOf, standing}
-use Rattle.book.specs.Demand3.{reportFor}
+use Rattle.book_model.specs.History.{History, opened, along, termsOf, standing}
+use Rattle.book_model.specs.Demand3.{reportFor}
 
 -- the worked input of document 01 and what it prints
 abbrev pub workedHeader : List ℕ

@@ -12,8 +12,8 @@ use Rattle.line_forms.specs.declared.Content.{Content}
 use Rattle.line_forms.specs.declared.Content.the-variants.{Header as header, Loan as loan, Policy as policy, Derivative as derivative, Asset as asset, Amount as amount, NoForm}
 use Rattle.line_forms.specs.Contents.{bytesOf, Written, inRange}
 use Rattle.line_forms.specs.Claims.{AfterHeader, NoBytes}
-use Rattle.book.specs.Accepted.{isLoan, isUnscored, isOther, countOf, loanBeyond, otherBeyond, refusalOf}
-use Rattle.book.specs.Calls.{emptyBook, zeroHeader, opening, wanting, closingRefusal}
+use Rattle.book_model.specs.Accepted.{isLoan, isUnscored, isOther, countOf, loanBeyond, otherBeyond, refusalOf}
+use Rattle.book_model.specs.Calls.{emptyBook, zeroHeader, opening, wanting, closingRefusal}
 
 -- s is the bytes of data c
 pub record Shows (s : List ℕ) (c : Content) : Type 0 where

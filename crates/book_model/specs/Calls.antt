@@ -13,16 +13,16 @@ use Rattle.line_forms.specs.declared.Line.{Line}
 use Rattle.line_forms.specs.Readings.{lineOf, headerOf}
 use Rattle.figures.specs.Figures.{figuresOf}
 use Rattle.report.specs.Line.{onto}
-use Rattle.book.specs.Report.{reportText}
-use Rattle.book.specs.declared.Closed.{Closed}
+use Rattle.book_model.specs.Report.{reportText}
+use Rattle.book_model.specs.declared.Closed.{Closed}
 use Rattle.figures.specs.declared.Sums.{Sums}
 use Rattle.figures.specs.Sums.{noSums, plus, sumOf, Bounded}
-use Rattle.book.specs.declared.Book.{Book}
-use Rattle.book.specs.declared.Opened.{Opened}
-use Rattle.book.specs.declared.Fed.{Fed}
-use Rattle.book.specs.Terms.{Terms, termsWith}
-use Rattle.book.specs.Share.{share}
-use Rattle.book.specs.Accepted.{refusalFor}
+use Rattle.book_model.specs.declared.Book.{Book}
+use Rattle.book_model.specs.declared.Opened.{Opened}
+use Rattle.book_model.specs.declared.Fed.{Fed}
+use Rattle.book_model.specs.Terms.{Terms, termsWith}
+use Rattle.book_model.specs.Share.{share}
+use Rattle.book_model.specs.Accepted.{refusalFor}
 
 -- the all-zero header, under which the value of a refused opening stands
 abbrev pub zeroHeader : Header

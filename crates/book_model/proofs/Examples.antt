@@ -14,13 +14,13 @@ use Rattle.other_charges.specs.Charges.{assetCharge, shareCharge}
 use Rattle.figures.specs.Sums.{sumOf}
 use Rattle.figures.specs.Figures.{requiredOf, admitted, capitalOf, ratioSize, ratioOf}
 use Rattle.report.specs.Decimal.{leading, digits, signed}
-use Rattle.book.specs.Share.{share, assetShare, amountShare}
-use Rattle.book.specs.Accepted.{isLoan, isUnscored, isOther, countOf, refusalFor, accept}
-use Rattle.book.specs.Exact.{amountRest, restOf, movedOf, sumOver}
-use Rattle.book.specs.Report.{ratioLine, reportText}
-use Rattle.book.specs.History.{headerIn, termsOf, acceptedOf, along, sumsOf, opened, standing}
-use Rattle.book.specs.Demand3.{figuresFor, reportFor}
-use Rattle.book.specs.Examples.{workedHeader, workedLines, workedReport, TwelveExamples}
+use Rattle.book_model.specs.Share.{share, assetShare, amountShare}
+use Rattle.book_model.specs.Accepted.{isLoan, isUnscored, isOther, countOf, refusalFor, accept}
+use Rattle.book_model.specs.Exact.{amountRest, restOf, movedOf, sumOver}
+use Rattle.book_model.specs.Report.{ratioLine, reportText}
+use Rattle.book_model.specs.History.{headerIn, termsOf, acceptedOf, along, sumsOf, opened, standing}
+use Rattle.book_model.specs.Demand3.{figuresFor, reportFor}
+use Rattle.book_model.specs.Examples.{workedHeader, workedLines, workedReport, TwelveExamples}
 
 taken : standing (along (opened workedHeader) workedLines) ≡ workedLines
 unfolding allWithin runOf same after isNumeral valueFrom numberOf headerInRange moneyInRange assetInRange amountInRange numberAt afterNumber afterNegative signedAt afterSigned placeOf afterWord headerHeld assetHeld plainHeld signedHeld amountHeld contentOf lineFor lineOf headerFor headerOf isLoan isUnscored isOther countOf refusalFor accept headerIn termsOf acceptedOf along

@@ -20,10 +20,10 @@ use Rattle.line_forms.specs.Readings.{lineOf, headerOf}
 use Rattle.line_forms.specs.Claims.{AfterHeader, lineWith, LineReading, HeaderReading}
 use Rattle.line_forms.proofs.LineLaws.{line-reading}
 use Rattle.line_forms.proofs.HeaderLaws.{header-reading}
-use Rattle.book.specs.declared.Opened.{Opened}
-use Rattle.book.specs.Accepted.{refusalFor, countOf, isLoan, isUnscored, isOther, loanBeyond, otherBeyond}
-use Rattle.book.specs.Calls.{emptyBook, openingFor, wanting}
-use Rattle.book.specs.Demand2.{ShowsInRange, OtherForm, OpeningRefusals, beyond, FeedingRefusals, ClosingRefusals, Demand2}
+use Rattle.book_model.specs.declared.Opened.{Opened}
+use Rattle.book_model.specs.Accepted.{refusalFor, countOf, isLoan, isUnscored, isOther, loanBeyond, otherBeyond}
+use Rattle.book_model.specs.Calls.{emptyBook, openingFor, wanting}
+use Rattle.book_model.specs.Demand2.{ShowsInRange, OtherForm, OpeningRefusals, beyond, FeedingRefusals, ClosingRefusals, Demand2}
 
 -- Closing
 

@@ -19,12 +19,12 @@ use Rattle.fixed_point.specs.declared.Signed.{Signed}
 use Rattle.figures.specs.declared.Sums.{Sums}
 use Rattle.figures.specs.Sums.{plus, sumOf}
 use Rattle.figures.proofs.SumsLaws.{sum-append, plus-none}
-use Rattle.book.specs.declared.Book.{Book}
-use Rattle.book.specs.Terms.{Terms, termsWith}
-use Rattle.book.specs.Share.{share, loanShare, policyShare, derivativeShare, assetShare, amountShare}
-use Rattle.book.specs.Accepted.{isLoan, isUnscored, isOther, countOf, refusalOf, accept}
-use Rattle.book.specs.Calls.{feedingLine, feeding, refusalIn}
-use Rattle.book.specs.History.{sumsOf, bookOf}
+use Rattle.book_model.specs.declared.Book.{Book}
+use Rattle.book_model.specs.Terms.{Terms, termsWith}
+use Rattle.book_model.specs.Share.{share, loanShare, policyShare, derivativeShare, assetShare, amountShare}
+use Rattle.book_model.specs.Accepted.{isLoan, isUnscored, isOther, countOf, refusalOf, accept}
+use Rattle.book_model.specs.Calls.{feedingLine, feeding, refusalIn}
+use Rattle.book_model.specs.History.{sumsOf, bookOf}
 
 -- A line's share counts it.
 pub record Counted (s : Sums) (l : Line) : Type 0 where

@@ -13,15 +13,15 @@ use Rattle.line_forms.specs.declared.Line.{Line}
 use Rattle.line_forms.specs.declared.Line.the-variants.{Loan as LoanLine, Policy as PolicyLine, Derivative as DerivativeLine, Asset as AssetLine, Amount as AmountLine, Refusal}
 use Rattle.line_forms.specs.Readings.{lineOf}
 use Rattle.figures.specs.Figures.{requiredOf, figuresOf}
-use Rattle.book.specs.Terms.{Terms, termsWith, factorFor}
-use Rattle.book.specs.Exact.{totalOf, restOf, sumOver, exponentsOver, requirement}
-use Rattle.book.specs.Accepted.{isLoan, countOf}
-use Rattle.book.specs.History.{sumsOf}
-use Rattle.book.proofs.Bounds.{Near, required-near}
-use Rattle.book.proofs.ExactSums.{rest-sum, rounded-is, parts-nonnegative}
-use Rattle.book.proofs.Near.{GoodTerms, list-close, chargeable}
-use Rattle.book.specs.Ranges.{Ranged}
-use Rattle.book.proofs.Ranged.{ranged}
+use Rattle.book_model.specs.Terms.{Terms, termsWith, factorFor}
+use Rattle.book_model.specs.Exact.{totalOf, restOf, sumOver, exponentsOver, requirement}
+use Rattle.book_model.specs.Accepted.{isLoan, countOf}
+use Rattle.book_model.specs.History.{sumsOf}
+use Rattle.book_model.proofs.Bounds.{Near, required-near}
+use Rattle.book_model.proofs.ExactSums.{rest-sum, rounded-is, parts-nonnegative}
+use Rattle.book_model.proofs.Near.{GoodTerms, list-close, chargeable}
+use Rattle.book_model.specs.Ranges.{Ranged}
+use Rattle.book_model.proofs.Ranged.{ranged}
 
 pub good-terms : (h : Header) → GoodTerms (termsWith h)
 unfolding factorFor

@@ -7,7 +7,7 @@ use Rattle.exact.specs.Fraction.{Fraction, Proper, quotient, whole, negated, _�
 use Rattle.exact.proofs.Fractions
 use Rattle.exact.proofs.Fractions.{Nonnegative}
 use Rattle.exact.proofs.Within.{Within, within-sum, within-negated, within-trans, within-alike, within-larger, within-product, within-ceiling, within-same}
-use Rattle.book.specs.Requirement.{exactHome, exactOper, exactRequired}
+use Rattle.book_model.specs.Requirement.{exactHome, exactOper, exactRequired}
 
 -- plus - minus, a whole number
 abbrev pub signedWhole : ℕ → ℕ → Fraction

@@ -26,13 +26,13 @@ use Rattle.line_forms.specs.declared.Line.the-variants.{Loan as LoanLine, Polic
 use Rattle.line_forms.specs.Readings.{lineOf}
 use Rattle.figures.specs.declared.Sums.{Sums}
 use Rattle.figures.specs.Sums.{sumOf, plus, signedSum}
-use Rattle.book.specs.Terms.{Terms, factorFor}
-use Rattle.book.specs.Share.{share, loanShare, loanNumbers, policyShare, derivativeShare, assetShare, amountShare}
-use Rattle.book.specs.Exact.{totalOf, supplementOf, sumOver}
-use Rattle.book.specs.Accepted.{isLoan, countOf}
-use Rattle.book.specs.History.{sumsOf}
-use Rattle.book.specs.Ranges.{LoanRanges, Ranged}
-use Rattle.book.proofs.Ranged.{ranged}
+use Rattle.book_model.specs.Terms.{Terms, factorFor}
+use Rattle.book_model.specs.Share.{share, loanShare, loanNumbers, policyShare, derivativeShare, assetShare, amountShare}
+use Rattle.book_model.specs.Exact.{totalOf, supplementOf, sumOver}
+use Rattle.book_model.specs.Accepted.{isLoan, countOf}
+use Rattle.book_model.specs.History.{sumsOf}
+use Rattle.book_model.specs.Ranges.{LoanRanges, Ranged}
+use Rattle.book_model.proofs.Ranged.{ranged}
 
 -- so many loans, each within 1.05 cents
 abbrev width : ℕ → Fraction
