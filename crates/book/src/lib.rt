@@ -11,7 +11,6 @@ ghost use Rattle.book_model.specs.Ranges.{Ranged, LoanRanges};
 ghost use Rattle.book_model.specs.Share.{loanShare, unscoredCount};
 ghost use Rattle.book_model.specs.Terms.{termsWith};
 
-mod closing; // the report's lines
 mod shares; // what a line adds to the sums
 
 use book_model::Book;
@@ -181,6 +180,6 @@ pub fn close(b: Book, out: &mut [u8]) -> Closed
         };
     }
     let figures = figures::compute(header.held, sums);
-    let length = closing::put_report(out, figures);
+    let length = book_report::put_report(out, figures);
     Closed { refusal: 0, length }
 }

@@ -35,7 +35,7 @@ use Rattle.line_forms.specs.Readings.{lineOf}
 use Rattle.figures.proofs.SumsLaws.{sum-permuted}
 use Rattle.report.specs.Decimal.{digits, signed}
 use Rattle.report.proofs.Decimal.{digits-value, signed-positive}
-use Rattle.book_model.specs.Report.{unsigned, valueLine, ratioLine, headText, reportText}
+use Rattle.book_report.specs.Report.{unsigned, valueLine, ratioLine, headText, reportText}
 use Rattle.book_model.specs.Demand3.{figuresFor, reportFor, afterLines, centsPerLoan, allowance, Closes, Measured, SameReports, Demand3}
 use Rattle.book_model.proofs.Bounds.{Near}
 use Rattle.book_model.proofs.Required.{good-terms, requiredFor, near, list-exponents}

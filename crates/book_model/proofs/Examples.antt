@@ -17,7 +17,7 @@ use Rattle.report.specs.Decimal.{leading, digits, signed}
 use Rattle.book_model.specs.Share.{share, assetShare, amountShare}
 use Rattle.book_model.specs.Accepted.{isLoan, isUnscored, isOther, countOf, refusalFor, accept}
 use Rattle.book_model.specs.Exact.{amountRest, restOf, movedOf, sumOver}
-use Rattle.book_model.specs.Report.{ratioLine, reportText}
+use Rattle.book_report.specs.Report.{ratioLine, reportText}
 use Rattle.book_model.specs.History.{headerIn, termsOf, acceptedOf, along, sumsOf, opened, standing}
 use Rattle.book_model.specs.Demand3.{figuresFor, reportFor}
 use Rattle.book_model.specs.Examples.{workedHeader, workedLines, workedReport, TwelveExamples}

@@ -13,7 +13,7 @@ use Rattle.line_forms.specs.declared.Line.{Line}
 use Rattle.line_forms.specs.Readings.{lineOf, headerOf}
 use Rattle.figures.specs.Figures.{figuresOf}
 use Rattle.report.specs.Line.{onto}
-use Rattle.book_model.specs.Report.{reportText}
+use Rattle.book_report.specs.Report.{reportText}
 use Rattle.book_model.specs.declared.Closed.{Closed}
 use Rattle.figures.specs.declared.Sums.{Sums}
 use Rattle.figures.specs.Sums.{noSums, plus, sumOf, Bounded}

@@ -16,7 +16,7 @@ use Rattle.book_model.specs.declared.Book.{Book}
 use Rattle.book_model.specs.Terms.{Terms}
 use Rattle.book_model.specs.Accepted.{isLoan, isUnscored, countOf, refusalOf, accept}
 use Rattle.book_model.specs.Exact.{restOf, movedOf, sumOver, requirement}
-use Rattle.book_model.specs.Report.{reportText}
+use Rattle.book_report.specs.Report.{reportText}
 use Rattle.book_model.specs.Calls.{opening, feeding, closing, closed, closingRefusal}
 use Rattle.book_model.specs.History.{History, opened, fed, along, termsOf, standing, sumsOf}
 

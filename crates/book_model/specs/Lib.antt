@@ -6,7 +6,6 @@ pub mod Examples
 pub mod Exact
 pub mod History
 pub mod Ranges
-pub mod Report
 pub mod Requirement
 pub mod Share
 pub mod Terms

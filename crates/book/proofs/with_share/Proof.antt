@@ -1,3 +1,4 @@
+use mathlib.Core.Path.{refl}
 use borrow.Author.Needs.{needs}
 use Rattle.book.proofs.with_share.Statement.{statement}
 use Rattle.book.proofs.with_share.Tie as tie
@@ -6,7 +7,7 @@ add-requires : tie.Need-add-requires
 add-requires c κs = search needs
 
 returns : tie.Need-returns
-returns c = cc
+returns c = rw (c .add .ensures) refl
 
 pub with-share-spec : {M : Type 1} → statement M
 with-share-spec = tie.close (tie.spec add-requires returns)

@@ -1,3 +1,4 @@
+use mathlib.Core.Path.{refl}
 use Rattle.book_model.specs.Share.{derivativeShare}
 use borrow.Author.Needs.{needs}
 use Rattle.book.proofs.shares.derivative.Statement.{statement}
@@ -14,7 +15,7 @@ rest-requires c κs = search needs
 
 returns : tie.Need-returns
 unfolding derivativeShare
-returns c = cc
+returns c = rw (c .rest .ensures, c .before .derivative-parts .ensures, c .before .before .positive .ensures) refl
 
 pub derivative-spec : {M : Type 1} → statement M
 derivative-spec =

@@ -1,12 +1,12 @@
 use Rattle.exact.specs.Text.{text}
 use Rattle.figures.specs.declared.Ratio.the-variants.{Number, None}
 use Rattle.report.proofs.Lines.{value-line-length}
-use Rattle.book_model.specs.Report.{ratioLine}
+use Rattle.book_report.specs.Report.{ratioLine}
 use mathlib.Core.Path.{_≡_}
 use native.Mathlib.Omega.{arith}
 use borrow.Author.Needs.{needs}
-use Rattle.book.proofs.closing.put_ratio.Statement.{statement}
-use Rattle.book.proofs.closing.put_ratio.Tie as tie
+use Rattle.book_report.proofs.put_ratio.Statement.{statement}
+use Rattle.book_report.proofs.put_ratio.Tie as tie
 
 enum-known-ratio : tie.Need-enum-known-ratio
 enum-known-ratio c = search needs

@@ -3,7 +3,7 @@ ghost use Prim.Native.Nat.{_≤_};
 ghost use mathlib.Core.Path.{_≡_};
 ghost use lib.ListN.{length};
 ghost use Rattle.report.specs.Line.{Written};
-ghost use Rattle.book_model.specs.Report.{ratioLine, headText, tailText, reportText};
+ghost use Rattle.book_report.specs.Report.{ratioLine, headText, tailText, reportText};
 use figures::Figures;
 use figures::Ratio;
 use fixed_point::Signed;

@@ -1,13 +1,13 @@
 use Rattle.exact.specs.Text.{text}
-use Rattle.book_model.specs.Report.{unsigned, valueLine}
+use Rattle.book_report.specs.Report.{unsigned, valueLine}
 use Rattle.report.proofs.Lines.{value-line-length}
 use Rattle.report.proofs.Onto.{written-more}
 use Prim.Native.Nat.{_≤_}
 use native.Mathlib.Omega.{arith}
 use lib.ListN.{length}
 use borrow.Author.Needs.{needs}
-use Rattle.book.proofs.closing.put_tail.Statement.{statement}
-use Rattle.book.proofs.closing.put_tail.Tie as tie
+use Rattle.book_report.proofs.put_tail.Statement.{statement}
+use Rattle.book_report.proofs.put_tail.Tie as tie
 
 -- no line is longer than its name and 25 bytes
 lines :

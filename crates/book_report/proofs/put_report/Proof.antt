@@ -1,9 +1,9 @@
-use Rattle.book_model.specs.Report.{reportText}
+use Rattle.book_report.specs.Report.{reportText}
 use Rattle.report.proofs.Onto.{written-more}
 use native.Mathlib.Omega.{arith}
 use borrow.Author.Needs.{needs}
-use Rattle.book.proofs.closing.put_report.Statement.{statement}
-use Rattle.book.proofs.closing.put_report.Tie as tie
+use Rattle.book_report.proofs.put_report.Statement.{statement}
+use Rattle.book_report.proofs.put_report.Tie as tie
 
 put-head-requires : tie.Need-put-head-requires
 put-head-requires c κs = search needs
