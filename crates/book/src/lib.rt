@@ -1,11 +1,13 @@
 // Opening, feeding and closing a book (document 01, "A book, line by line").
 ghost use mathlib.Core.Path.{_≡_};
+ghost use Prim.Native.Nat.{_≤_};
 ghost use Rattle.loan_charge.specs.Tables.{exponentials};
 ghost use Rattle.loan_charge.specs.CreditFactor.{builtInRates};
 ghost use Rattle.figures.specs.Sums.{Bounded, InLimits, plus};
+ghost use Rattle.report.specs.Line.{Written};
 ghost use mathlib.Core.Bool.{false};
 ghost use Rattle.book_model.specs.Accepted.{loanBeyond, otherBeyond};
-ghost use Rattle.book_model.specs.Calls.{zeroHeader, emptyBook, opening, added, feedingLine, feeding, closing, closed, Sound, CountsOne};
+ghost use Rattle.book_model.specs.Calls.{zeroHeader, emptyBook, opening, added, feedingLine, feeding, reportOf, closing, closed, Sound, CountsOne};
 ghost use lib.ListN.{length};
 ghost use Rattle.book_model.specs.Ranges.{Ranged, LoanRanges};
 ghost use Rattle.book_model.specs.Share.{loanShare, unscoredCount};
@@ -159,6 +161,17 @@ pub fn feed(b: Book, line: &[u8]) -> Fed
     feed_with(b, &exps, &rates, line)
 }
 
+// The report of a book.
+fn put_report(b: Book, out: &mut [u8]) -> usize
+    requires { ⌜ Sound b × (512 ≤ length (now out)) ⌝ }
+    ensures { λ r. ⌜ Written (now (out .entry)) (reportOf b) r (now (out .exit)) ⌝ }
+{
+    let header = b.header;
+    let sums = b.sums;
+    let figures = figures::compute(header.held, sums);
+    book_report::put_report(out, figures)
+}
+
 // A book is closed: its report is written to the lent buffer.
 pub fn close(b: Book, out: &mut [u8]) -> Closed
     requires { ⌜ Sound b ⌝ }
@@ -179,7 +192,6 @@ pub fn close(b: Book, out: &mut [u8]) -> Closed
             length: 0,
         };
     }
-    let figures = figures::compute(header.held, sums);
-    let length = book_report::put_report(out, figures);
+    let length = put_report(b, out);
     Closed { refusal: 0, length }
 }
