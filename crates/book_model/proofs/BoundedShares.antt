@@ -23,7 +23,7 @@ use Rattle.other_charges.proofs.ChargeLaws.{tenths-bounded, add-on-bounded}
 use Rattle.figures.specs.Sums.{Bounded}
 use Rattle.book_model.specs.Ranges.{LoanRanges, DerivativeRanges, AssetRanges, Ranged}
 use Rattle.book_model.specs.Terms.{Terms, factorFor}
-use Rattle.book_model.specs.Share.{unscoredCount, share, loanShare, loanNumbers, restShare, policyShare, derivativeShare, assetShare, amountShare}
+use Rattle.book_model.specs.Share.{unscoredCount, share, loanShare, loanNumbers, restShare, multiFactor, policyShare, derivativeShare, assetShare, amountShare}
 use Rattle.book_model.proofs.Near.{GoodTerms, chargeable}
 
 -- Charges in ten-millionths
@@ -49,7 +49,7 @@ rest-bounded n h = omega arith
 policy-bounded : (c : Class) (premium term completed : ℕ) → premium ≤ 100000000 → Bounded (policyShare c premium term completed)
 unfolding policyShare
 policy-bounded Home premium term completed h = omega (arith, provision-small premium term completed 10000 h (omega arith))
-policy-bounded Multi premium term completed h = rest-bounded (provisionParts premium term completed 12500) (omega (arith, provision-small premium term completed 12500 h (omega arith)))
+policy-bounded Multi premium term completed h = rest-bounded (provisionParts premium term completed multiFactor) (omega (arith, provision-small premium term completed multiFactor h (omega arith)))
 
 amount-bounded : (i : Item) (x : Signed) → x .plus ≤ 100000000000 → x .minus ≤ 100000000000 → Bounded (amountShare i x)
 unfolding amountShare

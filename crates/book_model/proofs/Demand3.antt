@@ -21,7 +21,7 @@ use Rattle.line_forms.specs.Readings.{headerOf}
 use Rattle.figures.specs.declared.Figures.{Figures}
 use Rattle.figures.specs.declared.Sums.{Sums}
 use Rattle.figures.specs.Sums.{sumOf}
-use Rattle.figures.specs.Figures.{figuresOf}
+use Rattle.figures.specs.Figures.{figuresFrom, figuresOf}
 use Rattle.report.specs.Line.{onto}
 use Rattle.book_model.specs.declared.Book.{Book}
 use Rattle.book_model.specs.declared.Fed.{Fed}
@@ -68,7 +68,7 @@ terms-along past (s ∷ lines) = terms-along (fed past s) lines ∙ terms-stay p
 
 -- the book just opened has no line taken
 pub opened-empty : (header : List ℕ) → opening header .book ≡ bookOf (termsWith (headerIn (headerOf header))) []
-unfolding openingFor headerIn sumsOf sumOf map
+unfolding openingFor headerIn sumsOf sumOf
 opened-empty header = go (headerOf header)
   where
     go : (l : HeaderLine) → openingFor l .book ≡ bookOf (termsWith (headerIn l)) []
@@ -93,7 +93,7 @@ after-is header lines =
 pub report-is : (t : Terms) (kept : List (List ℕ)) → reportOf (bookOf t kept) ≡ reportFor t kept
 unfolding reportFor figuresFor figuresOf
 report-is t kept =
-    rw (rounded-is (sumsOf t kept .rest) (rest-sum t kept), rounded-is (sumsOf t kept .moved) (moved-sum t kept)) refl
+    ap₂ (λ (rest moved : ℕ). reportText (figuresFrom (t .header .held) rest moved (sumsOf t kept))) (rounded-is (sumsOf t kept .rest) (rest-sum t kept)) (rounded-is (sumsOf t kept .moved) (moved-sum t kept))
 
 -- Closing by its tests
 
@@ -205,7 +205,6 @@ measured-of h kept =
 -- Order
 
 permuted-map : {A B : Type 0} (f : A → B) {xs ys : List A} → List·Permᴰ xs ys → List·Permᴰ (map f xs) (map f ys)
-unfolding map
 permuted-map f List·Permᴰ·nil = List·Permᴰ·nil
 permuted-map f (List·Permᴰ·cons e p) = List·Permᴰ·cons (ap f e) (permuted-map f p)
 permuted-map f (List·Permᴰ·swap e g) = List·Permᴰ·swap (ap f e) (ap f g)

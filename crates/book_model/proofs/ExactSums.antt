@@ -99,7 +99,7 @@ module _ (t : Terms) (exact : Line → Fraction) (amount : Sums → Money)
     (joined : (x y : Sums) → amount (plus x y) ≡ moneySum (amount x) (amount y))
     (each : (l : Line) → InParts (exact l) (inParts (amount (share t l)))) where
   sum-is : (kept : List (List ℕ)) → InParts (sumOver exact kept) (inParts (amount (sumsOf t kept)))
-  unfolding sumOver sumsOf sumOf map
+  unfolding sumOver sumsOf sumOf
   sum-is [] = rw empty nothing
   sum-is (s ∷ kept) =
       rw (joined (share t (lineOf s)) (sumsOf t kept), money-added (amount (share t (lineOf s))) (amount (sumsOf t kept)))

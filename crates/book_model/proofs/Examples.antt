@@ -28,7 +28,7 @@ taken = refl
 
 -- the report of the four lines
 worked : reportFor (termsOf (opened workedHeader)) workedLines ≡ workedReport
-unfolding allWithin runOf same after isNumeral valueFrom numberOf headerInRange moneyInRange assetInRange amountInRange numberAt afterNumber afterNegative signedAt afterSigned placeOf afterWord headerHeld assetHeld plainHeld signedHeld amountHeld contentOf lineFor lineOf headerFor headerOf headerIn termsOf map ceiling assetCharge shareCharge amountRest restOf movedOf sumOver share assetShare amountShare sumOf sumsOf requiredOf admitted capitalOf ratioSize ratioOf figuresFor reportFor ratioLine reportText leading digits signed
+unfolding allWithin runOf same after isNumeral valueFrom numberOf headerInRange moneyInRange assetInRange amountInRange numberAt afterNumber afterNegative signedAt afterSigned placeOf afterWord headerHeld assetHeld plainHeld signedHeld amountHeld contentOf lineFor lineOf headerFor headerOf headerIn termsOf ceiling assetCharge shareCharge amountRest restOf movedOf sumOver share assetShare amountShare sumOf sumsOf requiredOf admitted capitalOf ratioSize ratioOf figuresFor reportFor ratioLine reportText leading digits signed
 worked = refl
 
 pub twelve : TwelveExamples

@@ -129,6 +129,6 @@ line-close {t} g (AmountLine a) r = always (λ m. none-close _ (no-loan (a .item
 line-close {t} g (Refusal n) r = always (λ m. none-close _ refl refl)
 
 pub list-close : {t : Terms} → GoodTerms t → (kept : List (List ℕ)) → Eventually (λ x. Close (sumOver (λ l. totalOf t l .value x) kept) (sumOver (λ l. supplementOf t l .value x) kept) (sumsOf t kept) (countOf isLoan kept))
-unfolding sumOver sumsOf sumOf countOf map
+unfolding sumOver sumsOf sumOf countOf
 list-close g [] = always (λ m. none-close _ refl refl)
 list-close {t} g (s ∷ kept) = mapped (λ m h. sum-close (h .0) (h .1)) (both (line-close g (lineOf s) (ranged s)) (list-close g kept))

@@ -63,7 +63,7 @@ pub record Counts (s : Sums) (kept : List (List ℕ)) : Type 0 where
   pub other : s .other ≡ countOf isOther kept
 
 pub counts : (t : Terms) (kept : List (List ℕ)) → Counts (sumsOf t kept) kept
-unfolding sumsOf sumOf countOf map
+unfolding sumsOf sumOf countOf
 counts t [] = record { loans = refl; unscored = refl; other = refl }
 counts t (s ∷ kept) =
     let h : Counts (sumsOf t kept) kept = counts t kept in
@@ -76,7 +76,7 @@ counts t (s ∷ kept) =
 
 -- One line more adds its share.
 pub sums-more : (t : Terms) (kept : List (List ℕ)) (s : List ℕ) → sumsOf t (kept ++ (s ∷ [])) ≡ plus (sumsOf t kept) (share t (lineOf s))
-unfolding sumsOf map sumOf
+unfolding sumsOf sumOf
 sums-more t kept s =
     ap sumOf (map-append (λ r. share t (lineOf r)) kept (s ∷ [])) ∙ sum-append (map (λ r. share t (lineOf r)) kept) (share t (lineOf s) ∷ []) ∙ ap (plus (sumsOf t kept)) (plus-none (share t (lineOf s)))
 

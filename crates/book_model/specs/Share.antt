@@ -79,10 +79,14 @@ movedShare n = otherShare zeroMoney (moneyOf n) zeroSigned zeroSigned 0 0
 abbrev pub capitalShare : (equity aoci : Signed) (b c : ℕ) → Sums
 capitalShare equity aoci b c = otherShare zeroMoney zeroMoney equity aoci b c
 
--- Home provisions only move between headings; multi-unit ones count 1.25 times.
+-- multi-unit provisions count 1.25 times, in ten-thousandths
+abbrev pub multiFactor : ℕ
+multiFactor = 12500
+
+-- Home provisions only move between headings.
 unfoldable pub policyShare : Class → (premium term completed : ℕ) → Sums
 policyShare Home premium term completed = movedShare (provisionParts premium term completed 10000)
-policyShare Multi premium term completed = restShare (provisionParts premium term completed 12500)
+policyShare Multi premium term completed = restShare (provisionParts premium term completed multiFactor)
 
 unfoldable pub derivativeShare : Derivative → Sums
 derivativeShare d =
