@@ -1,5 +1,5 @@
 -- Demand 3: one claim about the whole list of lines. Over the definitions that the contracts equate with the calls (Calls.antt);
--- proved with no hypothesis in proofs/Demand3.antt, and through the calls themselves in proofs/Chain.antt.
+-- proved with no hypothesis in proofs/Demand3.antt, and through the calls themselves in proofs/Chain.antt of book.
 use Prim.Native.Nat.{ℕ, _+_, _*_, _≤_}
 use mathlib.Core.Path.{_≡_}
 use mathlib.Core.Logic.{_↔_}
