@@ -1,4 +1,3 @@
-use mathlib.Core.Path.{refl}
 use borrow.Author.Needs.{needs}
 use Rattle.book.proofs.with_share.Statement.{statement}
 use Rattle.book.proofs.with_share.Tie as tie
@@ -7,7 +6,7 @@ add-requires : tie.Need-add-requires
 add-requires c κs = search needs
 
 returns : tie.Need-returns
-returns c = rw (c .add .ensures) refl
+returns c = λ i. record { refusal = 0; book = record { header = c .before .before .before .args .b .header; sums = c .add .ensures i } }
 
 pub with-share-spec : {M : Type 1} → statement M
 with-share-spec = tie.close (tie.spec add-requires returns)
