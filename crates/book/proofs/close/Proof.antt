@@ -1,13 +1,14 @@
+use denote.Ref.{now}
 use Rattle.book_model.proofs.Closings.{refused-6, refused-9, written}
 use borrow.Author.Needs.{needs}
 use Rattle.book.proofs.close.Statement.{statement}
 use Rattle.book.proofs.close.Tie as tie
 
 returns : tie.Need-returns
-returns c = refused-6 _ _ (c .if1 .taken)
+returns c = refused-6 (c .before .before .before .before .before .before .before .before .args .b) (now (c .before .before .before .before .before .before .before .before .args .out)) (c .if1 .taken)
 
 returns-2 : tie.Need-returns-2
-returns-2 c = refused-9 _ _ (c .before .if1 .left) (c .if2 .taken)
+returns-2 c = refused-9 (c .before .before .before .before .before .before .before .before .before .args .b) (now (c .before .before .before .before .before .before .before .before .before .args .out)) (c .before .if1 .left) (c .if2 .taken)
 
 returns-3 : tie.Need-returns-3
 returns-3 c = written _ _ (search) (search needs) (search)
