@@ -7,19 +7,19 @@ use contract.Lifetimes.{Lfts}
 use borrow.Fn.Kinds.{Dens, endedOf}
 use denote.Triple.Clauses.{AtExit}
 use denote.Ref.{now}
-use Rattle.book.specs.declared.Book.{Book}
-use Rattle.book.specs.declared.Opened.{Opened}
-use Rattle.book.specs.declared.Fed.{Fed}
-use Rattle.book.specs.Calls.{feeding, closing, closed}
-use Rattle.book.specs.History.{History, opened, fed, headerIn, termsOf, standing, bookOf}
+use Rattle.book_model.specs.declared.Book.{Book}
+use Rattle.book_model.specs.declared.Opened.{Opened}
+use Rattle.book_model.specs.declared.Fed.{Fed}
+use Rattle.book_model.specs.Calls.{feeding, closing, closed}
+use Rattle.book_model.specs.History.{History, opened, fed, headerIn, termsOf, standing, bookOf}
 use Rattle.line_forms.specs.declared.Header.{Header}
 use Rattle.line_forms.specs.Readings.{headerOf}
 use lib.ListN.{length}
-use Rattle.book.specs.declared.Closed.{Closed}
-use Rattle.book.specs.Terms.{Terms, termsWith}
-use Rattle.book.specs.Demand3.{Closes, Measured, SameReports}
-use Rattle.book.proofs.Steps.{step}
-use Rattle.book.proofs.Demand3.{one-more, opened-empty, none-standing, closes-of, measured-of, same-reports}
+use Rattle.book_model.specs.declared.Closed.{Closed}
+use Rattle.book_model.specs.Terms.{Terms, termsWith}
+use Rattle.book_model.specs.Demand3.{Closes, Measured, SameReports}
+use Rattle.book_model.proofs.Steps.{step}
+use Rattle.book_model.proofs.Demand3.{one-more, opened-empty, none-standing, closes-of, measured-of, same-reports}
 use Rattle.book.proofs.open.Reads as open-reads
 use Rattle.book.proofs.open.Kinds as open-kinds
 use Rattle.book.proofs.feed.Reads as feed-reads

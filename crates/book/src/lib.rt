@@ -1,49 +1,30 @@
 // Opening, feeding and closing a book (document 01, "A book, line by line").
 ghost use mathlib.Core.Path.{_≡_};
+ghost use Prim.Native.Nat.{_≤_};
 ghost use Rattle.loan_charge.specs.Tables.{exponentials};
 ghost use Rattle.loan_charge.specs.CreditFactor.{builtInRates};
 ghost use Rattle.figures.specs.Sums.{Bounded, InLimits, plus};
+ghost use Rattle.report.specs.Line.{Written};
 ghost use mathlib.Core.Bool.{false};
-ghost use Rattle.book.specs.Accepted.{loanBeyond, otherBeyond};
-ghost use Rattle.book.specs.Calls.{zeroHeader, emptyBook, opening, added, feedingLine, feeding, closing, closed, Sound, CountsOne};
+ghost use Rattle.book_model.specs.Accepted.{loanBeyond, otherBeyond};
+ghost use Rattle.book_model.specs.Calls.{zeroHeader, emptyBook, opening, added, feedingLine, feeding, reportOf, closing, closed, Sound, CountsOne};
 ghost use lib.ListN.{length};
-ghost use Rattle.book.specs.Ranges.{Ranged, LoanRanges};
-ghost use Rattle.book.specs.Share.{loanShare, unscoredCount};
-ghost use Rattle.book.specs.Terms.{termsWith};
+ghost use Rattle.book_model.specs.Ranges.{Ranged, LoanRanges};
+ghost use Rattle.book_model.specs.Share.{loanShare, unscoredCount};
+ghost use Rattle.book_model.specs.Terms.{termsWith};
 
-mod closing; // the report's lines
 mod shares; // what a line adds to the sums
 
+use book_model::Book;
+use book_model::Closed;
+use book_model::Fed;
+use book_model::Opened;
 use figures::Sums;
 use line_forms::Header;
 use line_forms::HeaderLine;
 use line_forms::Line;
 use line_forms::Loan;
 use loan_charge::Score;
-
-// A book: its header, which never changes, and the sums of the lines taken.
-pub struct Book {
-    pub header: Header,
-    pub sums: Sums,
-}
-
-// The answer of opening: a refusal, 0 for none, and the book.
-pub struct Opened {
-    pub refusal: u64,
-    pub book: Book,
-}
-
-// The answer of feeding: a refusal, 0 for none, and the book.
-pub struct Fed {
-    pub refusal: u64,
-    pub book: Book,
-}
-
-// The answer of closing: a refusal, 0 for none, and the length of the report written, 0 where refused.
-pub struct Closed {
-    pub refusal: u64,
-    pub length: usize,
-}
 
 // A book with no line taken.
 fn empty(header: Header) -> Book
@@ -180,6 +161,17 @@ pub fn feed(b: Book, line: &[u8]) -> Fed
     feed_with(b, &exps, &rates, line)
 }
 
+// The report of a book.
+fn put_report(b: Book, out: &mut [u8]) -> usize
+    requires { ⌜ Sound b × (512 ≤ length (now out)) ⌝ }
+    ensures { λ r. ⌜ Written (now (out .entry)) (reportOf b) r (now (out .exit)) ⌝ }
+{
+    let header = b.header;
+    let sums = b.sums;
+    let figures = figures::compute(header.held, sums);
+    book_report::put_report(out, figures)
+}
+
 // A book is closed: its report is written to the lent buffer.
 pub fn close(b: Book, out: &mut [u8]) -> Closed
     requires { ⌜ Sound b ⌝ }
@@ -200,7 +192,6 @@ pub fn close(b: Book, out: &mut [u8]) -> Closed
             length: 0,
         };
     }
-    let figures = figures::compute(header.held, sums);
-    let length = closing::put_report(out, figures);
+    let length = put_report(b, out);
     Closed { refusal: 0, length }
 }

@@ -13,9 +13,9 @@ use Rattle.report.specs.Decimal.{digits}
 use Rattle.report.specs.Line.{refusalLine, onto, Written}
 use Rattle.report.proofs.Decimal.{digits-length}
 use Rattle.report.proofs.Lines.{two-length}
-use Rattle.book.specs.declared.Book.{Book}
-use Rattle.book.specs.declared.Closed.{Closed}
-use Rattle.book.specs.Calls.{wanting, closing, closed, reportOf}
+use Rattle.book_model.specs.declared.Book.{Book}
+use Rattle.book_model.specs.declared.Closed.{Closed}
+use Rattle.book_model.specs.Calls.{wanting, closing, closed, reportOf}
 use Rattle.driver.specs.declared.Progress.{Progress}
 use Rattle.driver.specs.Reading.{withLine}
 use Rattle.driver.specs.Printed.{printedFor, printedAtEnd, endedWith}

@@ -9,8 +9,8 @@ use lib.ListN.{take}
 use borrow.Author.Tests.{eqb-true, eqb-false}
 use Rattle.exact.specs.Choice.{pick}
 use Rattle.report.specs.Line.{refusalLine, Written}
-use Rattle.book.specs.declared.Book.{Book}
-use Rattle.book.specs.Calls.{opening, feeding}
+use Rattle.book_model.specs.declared.Book.{Book}
+use Rattle.book_model.specs.Calls.{opening, feeding}
 use Rattle.driver.specs.declared.Progress.{Progress}
 use Rattle.driver.specs.Reading.{Reading, atStart, after, newline, kept, withLine, withByte, withBytes, readingOf}
 use Rattle.driver.specs.declared.Run.{Run}

@@ -16,16 +16,16 @@ use Rattle.line_forms.specs.declared.Line.{Line}
 use Rattle.line_forms.specs.declared.Line.the-variants.{Loan as LoanLine, Policy as PolicyLine, Derivative as DerivativeLine, Asset as AssetLine, Amount as AmountLine, Refusal}
 use Rattle.line_forms.specs.Contents.{loanInRange, policyInRange, derivativeInRange, assetInRange, amountInRange}
 use Rattle.line_forms.specs.Readings.{contentOf, lineFor, lineOf, headerOf}
-use Rattle.book.specs.declared.Book.{Book}
-use Rattle.book.specs.declared.Opened.{Opened}
-use Rattle.book.specs.declared.Fed.{Fed}
-use Rattle.book.specs.Terms.{termsWith}
-use Rattle.book.specs.Share.{share}
-use Rattle.book.specs.Accepted.{isLoan, isOther, refusalFor}
-use Rattle.book.specs.Calls.{opening, feeding, feedingLine, refusalIn, withLine as lineAdded}
-use Rattle.book.proofs.Steps.{Counted, counted}
-use Rattle.book.proofs.Feeding.{fed-sound, opening-sound}
-use Rattle.book.proofs.Ranged.{ranged, ranged-header}
+use Rattle.book_model.specs.declared.Book.{Book}
+use Rattle.book_model.specs.declared.Opened.{Opened}
+use Rattle.book_model.specs.declared.Fed.{Fed}
+use Rattle.book_model.specs.Terms.{termsWith}
+use Rattle.book_model.specs.Share.{share}
+use Rattle.book_model.specs.Accepted.{isLoan, isOther, refusalFor}
+use Rattle.book_model.specs.Calls.{opening, feeding, feedingLine, refusalIn, withLine as lineAdded}
+use Rattle.book_model.proofs.Steps.{Counted, counted}
+use Rattle.book_model.proofs.Feeding.{fed-sound, opening-sound}
+use Rattle.book_model.proofs.Ranged.{ranged, ranged-header}
 use Rattle.driver.specs.declared.Progress.{Progress}
 use Rattle.driver.specs.Reading.{after, withLine, Underway}
 

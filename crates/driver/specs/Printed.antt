@@ -5,8 +5,8 @@ use mathlib.Core.List.{List, [], _∷_, _++_}
 use lib.Dec.{eqb}
 use Rattle.exact.specs.Choice.{pick}
 use Rattle.report.specs.Line.{refusalLine}
-use Rattle.book.specs.declared.Book.{Book}
-use Rattle.book.specs.Calls.{opening, feeding, wanting, reportOf}
+use Rattle.book_model.specs.declared.Book.{Book}
+use Rattle.book_model.specs.Calls.{opening, feeding, wanting, reportOf}
 use Rattle.driver.specs.declared.Progress.{Progress}
 use Rattle.driver.specs.Reading.{Reading, withLine, newline}
 

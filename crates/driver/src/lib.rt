@@ -8,10 +8,10 @@ ghost use lib.ListN.{length, take};
 ghost use Rattle.loan_charge.specs.Tables.{exponentials};
 ghost use Rattle.loan_charge.specs.CreditFactor.{builtInRates};
 ghost use Rattle.report.specs.Line.{Written};
-ghost use Rattle.book.specs.Calls.{Sound};
+ghost use Rattle.book_model.specs.Calls.{Sound};
 ghost use Rattle.driver.specs.Reading.{atStart, after, withLine, kept, withBytes, readingOf, Underway, Running};
 ghost use Rattle.driver.specs.Printed.{printedFor, ended, printed};
-use book::Book;
+use book_model::Book;
 use line_forms::Header;
 
 // What the lines read so far gave: the refusal, 0 for none, the number of the line to be read or of the refused one, and the book.

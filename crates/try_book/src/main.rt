@@ -3,9 +3,9 @@
 // A closing prints the whole buffer, in which every byte was `.` before.
 ghost use Prim.Native.Nat.{_≤_, _<_};
 ghost use lib.ListN.{length};
-ghost use Rattle.book.specs.Calls.{Sound};
-use book::Book;
-use book::Closed;
+ghost use Rattle.book_model.specs.Calls.{Sound};
+use book_model::Book;
+use book_model::Closed;
 
 fn print_answer(call: &[u8], refusal: u64) {
     io::write_all(1, call);

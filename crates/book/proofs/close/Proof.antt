@@ -1,17 +1,17 @@
-use borrow.Author.Tests.{lt-ltb, le-ltb}
-use Rattle.book.proofs.Closings.{refused-6, refused-9, written}
+use denote.Ref.{now}
+use Rattle.book_model.proofs.Closings.{refused-6, refused-9, written}
 use borrow.Author.Needs.{needs}
 use Rattle.book.proofs.close.Statement.{statement}
 use Rattle.book.proofs.close.Tie as tie
 
 returns : tie.Need-returns
-returns c = refused-6 (c .before .before .before .before .before .before .before .before .args .b) (denote.Ref.now (c .before .before .before .before .before .before .before .before .args .out)) (c .if1 .taken)
+returns c = refused-6 (c .before .before .before .before .before .before .before .before .args .b) (now (c .before .before .before .before .before .before .before .before .args .out)) (c .if1 .taken)
 
 returns-2 : tie.Need-returns-2
-returns-2 c = refused-9 (c .before .before .before .before .before .before .before .before .before .args .b) (denote.Ref.now (c .before .before .before .before .before .before .before .before .before .args .out)) (c .before .if1 .left) (lt-ltb _ _ (c .if2 .taken))
+returns-2 c = refused-9 (c .before .before .before .before .before .before .before .before .before .args .b) (now (c .before .before .before .before .before .before .before .before .before .args .out)) (c .before .if1 .left) (c .if2 .taken)
 
-compute-requires : tie.Need-compute-requires
-compute-requires c κs = search needs
+returns-3 : tie.Need-returns-3
+returns-3 c = written _ _ (search) (search needs) (search)
 
 put-report-requires : tie.Need-put-report-requires
 put-report-requires c κs = search needs
@@ -19,11 +19,5 @@ put-report-requires c κs = search needs
 same-length : tie.Need-same-length
 same-length c = search needs
 
-returns-3 : tie.Need-returns-3
-returns-3 c =
-    written (c .before .before .before .before .before .before .before .before .before .before .before .before .before .before .args .b) (denote.Ref.now (c .before .before .before .before .before .before .before .before .before .before .before .before .before .before .args .out)) (c .before .before .before .before .before .before .if1 .left) (le-ltb _ _ (c .before .before .before .before .before .if2 .left)) (rw (c .before .before .before .before .compute .ensures) at (c .before .before .put-report .ensures))
-
 pub close-spec : {M : Type 1} → statement M
-close-spec =
-    tie.close
-    (tie.spec returns returns-2 compute-requires put-report-requires same-length returns-3)
+close-spec = tie.close (tie.spec returns returns-2 put-report-requires same-length returns-3)

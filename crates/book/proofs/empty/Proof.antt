@@ -1,3 +1,4 @@
+use mathlib.Core.Path.{refl}
 use borrow.Author.Needs.{needs}
 use Rattle.book.proofs.empty.Statement.{statement}
 use Rattle.book.proofs.empty.Tie as tie
@@ -6,7 +7,7 @@ none-requires : tie.Need-none-requires
 none-requires c κs = search needs
 
 returns : tie.Need-returns
-returns c = cc
+returns c = rw (c .none .ensures) refl
 
 pub empty-spec : {M : Type 1} → statement M
 empty-spec = tie.close (tie.spec none-requires returns)

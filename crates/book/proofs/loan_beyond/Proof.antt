@@ -1,3 +1,4 @@
+use mathlib.Core.Path.{refl}
 use borrow.Author.Needs.{needs}
 use Rattle.book.proofs.loan_beyond.Statement.{statement}
 use Rattle.book.proofs.loan_beyond.Tie as tie
@@ -6,7 +7,7 @@ unscored-requires : tie.Need-unscored-requires
 unscored-requires c κs = search needs
 
 returns : tie.Need-returns
-returns c = cc
+returns c = rw (c .before .before .unscored .ensures) refl
 
 pub loan-beyond-spec : {M : Type 1} → statement M
 loan-beyond-spec = tie.close (tie.spec unscored-requires returns)

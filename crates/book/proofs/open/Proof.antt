@@ -1,10 +1,5 @@
-use mathlib.Core.Path.{subst}
-use Rattle.line_forms.specs.Readings.{headerOf}
-use Rattle.book.specs.declared.Opened.{Opened}
-use Rattle.book.specs.Calls.{openingFor, opening, Sound}
-use Rattle.book.proofs.Feeding.{opening-sound}
-use Rattle.book.proofs.Ranged.{ranged-header}
-use mathlib.Core.Path.{_≡_, sym}
+use denote.Ref.{now}
+use Rattle.book.proofs.Answers.{opened, not-opened}
 use borrow.Author.Needs.{needs}
 use Rattle.book.proofs.open.Statement.{statement}
 use Rattle.book.proofs.open.Tie as tie
@@ -28,16 +23,12 @@ empty-requires-2 : tie.Need-empty-requires-2
 empty-requires-2 c κs = search needs
 
 returns : tie.Need-returns
-unfolding openingFor
 returns c =
-    let e : record { refusal = 0; book = c .empty .result } ≡ opening (denote.Ref.now (c .before .before .before .before .before .before .args .line)) = cc in
-    (e, subst (λ (o : Opened). Sound (o .book)) (sym e) (opening-sound (headerOf (denote.Ref.now (c .before .before .before .before .before .before .args .line))) (ranged-header (denote.Ref.now (c .before .before .before .before .before .before .args .line)))))
+    opened (now (c .before .before .before .before .before .before .args .line)) (c .before .before .before .before .read-header .ensures) (c .before .before .read .given .0 .0) (c .before .before .read .given .1) (c .empty .ensures)
 
 returns-2 : tie.Need-returns-2
-unfolding openingFor
 returns-2 c =
-    let e : record { refusal = c .before .before .before .read2 .given .0 .0; book = c .empty2 .result } ≡ opening (denote.Ref.now (c .before .before .before .before .before .before .before .args .line)) = cc in
-    (e, subst (λ (o : Opened). Sound (o .book)) (sym e) (opening-sound (headerOf (denote.Ref.now (c .before .before .before .before .before .before .before .args .line))) (ranged-header (denote.Ref.now (c .before .before .before .before .before .before .before .args .line)))))
+    not-opened (now (c .before .before .before .before .before .before .before .args .line)) (c .before .before .before .before .before .read-header .ensures) (c .before .before .before .read2 .given .0 .0) (c .before .before .before .read2 .given .1) (c .before .zero-header .ensures) (c .empty2 .ensures)
 
 pub open-spec : {M : Type 1} → statement M
 open-spec =

@@ -6,7 +6,7 @@ add-requires : tie.Need-add-requires
 add-requires c κs = search needs
 
 returns : tie.Need-returns
-returns c = cc
+returns c = λ i. record { refusal = 0; book = record { header = c .before .before .before .args .b .header; sums = c .add .ensures i } }
 
 pub with-share-spec : {M : Type 1} → statement M
 with-share-spec = tie.close (tie.spec add-requires returns)

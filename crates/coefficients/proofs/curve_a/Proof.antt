@@ -12,11 +12,11 @@ other-a-requires c κs = search needs
 
 returns : tie.Need-returns
 unfolding scaledA
-returns c = cc
+returns c = rw (c .before .if1 .taken) (c .first-a .ensures)
 
 returns-2 : tie.Need-returns-2
 unfolding scaledA
-returns-2 c = cc
+returns-2 c = rw (c .before .if1 .left) (c .other-a .ensures)
 
 pub curve-a-spec : {M : Type 1} → statement M
 curve-a-spec = tie.close (tie.spec first-a-requires other-a-requires returns returns-2)

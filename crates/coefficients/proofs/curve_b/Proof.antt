@@ -12,11 +12,11 @@ other-b-requires c κs = search needs
 
 returns : tie.Need-returns
 unfolding scaledB
-returns c = cc
+returns c = rw (c .before .if1 .taken) (c .first-b .ensures)
 
 returns-2 : tie.Need-returns-2
 unfolding scaledB
-returns-2 c = cc
+returns-2 c = rw (c .before .if1 .left) (c .other-b .ensures)
 
 pub curve-b-spec : {M : Type 1} → statement M
 curve-b-spec = tie.close (tie.spec first-b-requires other-b-requires returns returns-2)

@@ -1,4 +1,5 @@
 -- b: each choice and difference is what its call ensures.
+use mathlib.Core.Path.{refl}
 use borrow.Author.Needs.{needs}
 use Rattle.coefficients.specs.Integers.{tenthsB}
 use Rattle.coefficients.proofs.rate_b.Statement.{statement}
@@ -9,11 +10,11 @@ up-to-requires c κs = search needs
 
 returns : tie.Need-returns
 unfolding tenthsB
-returns c = cc
+returns c = rw (c .before .if1 .taken) (c .up-to .ensures)
 
 returns-2 : tie.Need-returns-2
 unfolding tenthsB
-returns-2 c = cc
+returns-2 c = rw (c .if1 .left) refl
 
 pub rate-b-spec : {M : Type 1} → statement M
 rate-b-spec = tie.close (tie.spec up-to-requires returns returns-2)

@@ -3,8 +3,8 @@ use mathlib.Core.Path.{sym, subst}
 use native.Mathlib.Omega.{arith}
 use borrow.Author.Needs.{needs}
 use Rattle.figures.specs.declared.Sums.{Sums}
-use Rattle.book.specs.Calls.{zeroHeader}
-use Rattle.book.proofs.Feeding.{empty-sound}
+use Rattle.book_model.specs.Calls.{zeroHeader}
+use Rattle.book_model.proofs.Feeding.{empty-sound}
 use Rattle.driver.specs.Reading.{atStart, Running}
 use Rattle.driver.proofs.start.Statement.{statement}
 use Rattle.driver.proofs.start.Tie as tie

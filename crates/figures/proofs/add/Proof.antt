@@ -1,4 +1,5 @@
 -- `figures::add` meets its contract: each sum is a multiple of the lines, whose number is limited. Assumes nothing.
+use mathlib.Core.Path.{refl}
 use native.Mathlib.Omega.{arith}
 use Rattle.figures.proofs.add.Statement.{statement}
 use Rattle.figures.proofs.add.Tie as tie
@@ -37,7 +38,8 @@ sum-requires-5 : tie.Need-sum-requires-5
 sum-requires-5 c κs = omega arith
 
 returns : tie.Need-returns
-returns c = cc
+returns c =
+    rw (c .before .before .before .before .before .before .before .before .before .before .sum .ensures, c .before .before .before .before .before .before .before .before .before .sum2 .ensures, c .before .before .before .before .before .before .before .before .sum3 .ensures, c .before .before .before .before .before .before .before .signed-sum .ensures, c .before .before .before .before .before .before .signed-sum2 .ensures, c .before .before .before .before .before .money-sum .ensures, c .before .before .before .before .money-sum2 .ensures, c .before .before .before .signed-sum3 .ensures, c .before .before .signed-sum4 .ensures, c .before .sum4 .ensures, c .sum5 .ensures) refl
 
 pub add-spec : {M : Type 1} → statement M
 add-spec =

@@ -1,4 +1,5 @@
 -- `figures::both_admitted` meets its contract. Assumes nothing.
+use mathlib.Core.Path.{refl}
 use Rattle.figures.specs.Figures.{admitted}
 use borrow.Author.Needs.{needs}
 use Rattle.figures.proofs.both_admitted.Statement.{statement}
@@ -15,7 +16,7 @@ add-result c = search needs
 
 returns : tie.Need-returns
 unfolding admitted
-returns c = cc
+returns c = rw (c .admitted-c .ensures, c .before .admitted-b .ensures) refl
 
 pub both-admitted-spec : {M : Type 1} → statement M
 both-admitted-spec =

@@ -1,4 +1,5 @@
 -- `figures::capital` meets its contract: no more is admitted than b and c, so the sums fit. Assumes nothing.
+use mathlib.Core.Path.{refl}
 use Rattle.figures.specs.Figures.{capitalOf}
 use Rattle.figures.proofs.FiguresLaws.{admitted-le}
 use native.Mathlib.Omega.{arith}
@@ -25,7 +26,7 @@ signed-requires c κs = omega arith
 
 returns : tie.Need-returns
 unfolding capitalOf
-returns c = cc
+returns c = rw (c .signed .ensures, c .before .before .before .before .before .both-admitted .ensures, c .before .before .before .before .before .before .excess .ensures) refl
 
 pub capital-spec : {M : Type 1} → statement M
 capital-spec =

@@ -1,4 +1,5 @@
 -- `figures::capital_ratio` meets its contract. Assumes nothing.
+use mathlib.Core.Path.{refl}
 use borrow.Author.Tests.{eq-eqb, ne-eqb}
 use Rattle.figures.specs.Figures.{ratioOf}
 use borrow.Author.Needs.{needs}
@@ -23,7 +24,7 @@ ratio-size-requires-2 c κs = search needs
 
 returns-2 : tie.Need-returns-2
 unfolding ratioOf
-returns-2 c = rw (ne-eqb (c .before .before .before .before .before .args .required) 0 (c .before .before .before .before .if1 .left)) (cc)
+returns-2 c = rw (ne-eqb (c .before .before .before .before .before .args .required) 0 (c .before .before .before .before .if1 .left), c .before .before .ratio-size .ensures, c .before .before .before .excess .ensures, c .ratio-size2 .ensures, c .before .excess2 .ensures) refl
 
 pub capital-ratio-spec : {M : Type 1} → statement M
 capital-ratio-spec =

@@ -1,4 +1,5 @@
 -- `figures::money_sum` meets its contract. Assumes nothing.
+use mathlib.Core.Path.{refl}
 use borrow.Author.Needs.{needs}
 use Rattle.figures.proofs.money_sum.Statement.{statement}
 use Rattle.figures.proofs.money_sum.Tie as tie
@@ -10,7 +11,7 @@ sum-requires-2 : tie.Need-sum-requires-2
 sum-requires-2 c κs = search needs
 
 returns : tie.Need-returns
-returns c = cc
+returns c = rw (c .before .sum .ensures, c .sum2 .ensures) refl
 
 pub money-sum-spec : {M : Type 1} → statement M
 money-sum-spec = tie.close (tie.spec sum-requires sum-requires-2 returns)

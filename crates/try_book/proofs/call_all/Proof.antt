@@ -1,7 +1,7 @@
 -- Safe and ends: each turn passes a line, so the measure is what is left of the input. Every book is one that opening or feeding gave.
 use Prim.Native.Nat.{_-_}
 use lib.ListN.{length}
-use Rattle.book.specs.Calls.{Sound}
+use Rattle.book_model.specs.Calls.{Sound}
 use borrow.Author.Needs.{needs}
 use Rattle.try_book.proofs.call_all.Statement.{statement}
 use Rattle.try_book.proofs.call_all.Tie as tie

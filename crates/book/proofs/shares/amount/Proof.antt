@@ -1,4 +1,4 @@
-use Rattle.book.specs.Share.{amountShare}
+use Rattle.book_model.specs.Share.{amountShare}
 use mathlib.Core.Path.{refl}
 use borrow.Author.Needs.{needs}
 use Rattle.book.proofs.shares.amount.Statement.{statement}

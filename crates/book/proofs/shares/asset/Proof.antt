@@ -1,4 +1,5 @@
-use Rattle.book.specs.Share.{assetShare}
+use mathlib.Core.Path.{refl}
+use Rattle.book_model.specs.Share.{assetShare}
 use borrow.Author.Needs.{needs}
 use Rattle.book.proofs.shares.asset.Statement.{statement}
 use Rattle.book.proofs.shares.asset.Tie as tie
@@ -11,7 +12,7 @@ rest-requires c κs = search needs
 
 returns : tie.Need-returns
 unfolding assetShare
-returns c = cc
+returns c = rw (c .rest .ensures, c .before .asset-parts .ensures) refl
 
 pub asset-spec : {M : Type 1} → statement M
 asset-spec = tie.close (tie.spec asset-parts-requires rest-requires returns)

@@ -1,3 +1,4 @@
+use mathlib.Core.Path.{refl}
 use borrow.Author.Needs.{needs}
 use Rattle.book.proofs.shares.capital.Statement.{statement}
 use Rattle.book.proofs.shares.capital.Tie as tie
@@ -12,7 +13,7 @@ other-requires : tie.Need-other-requires
 other-requires c κs = search needs
 
 returns : tie.Need-returns
-returns c = cc
+returns c = rw (c .other .ensures, c .before .before .no-money .ensures, c .before .no-money2 .ensures) refl
 
 pub capital-spec : {M : Type 1} → statement M
 capital-spec = tie.close (tie.spec no-money-requires no-money-requires-2 other-requires returns)

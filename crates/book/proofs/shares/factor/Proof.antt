@@ -1,4 +1,5 @@
-use Rattle.book.specs.Terms.{factorFor}
+use mathlib.Core.Path.{refl}
+use Rattle.book_model.specs.Terms.{factorFor}
 use borrow.Author.Needs.{needs}
 use Rattle.book.proofs.shares.factor.Statement.{statement}
 use Rattle.book.proofs.shares.factor.Tie as tie
@@ -11,7 +12,7 @@ credit-factor-requires c κs = search needs
 
 returns : tie.Need-returns
 unfolding factorFor
-returns c = cc
+returns c = rw (c .credit-factor .ensures, c .before .on-aged-table .ensures, c .before .before .pre) refl
 
 pub factor-spec : {M : Type 1} → statement M
 factor-spec = tie.close (tie.spec on-aged-table-requires credit-factor-requires returns)

@@ -1,7 +1,8 @@
-use Rattle.book.proofs.Near.{chargeable}
-use Rattle.book.proofs.Required.{good-terms}
-use Rattle.book.specs.Share.{loanNumbers}
-use Rattle.book.specs.Share.{loanShare}
+use mathlib.Core.Path.{refl}
+use Rattle.book_model.proofs.Near.{chargeable}
+use Rattle.book_model.proofs.Required.{good-terms}
+use Rattle.book_model.specs.Share.{loanNumbers}
+use Rattle.book_model.specs.Share.{loanShare}
 use borrow.Author.Needs.{needs}
 use Rattle.book.proofs.shares.loan.Statement.{statement}
 use Rattle.book.proofs.shares.loan.Tie as tie
@@ -30,7 +31,8 @@ no-amount-requires-2 c κs = search needs
 
 returns : tie.Need-returns
 unfolding loanShare loanNumbers
-returns c = cc
+returns c =
+    rw (c .before .before .before .before .unscored .ensures, c .before .before .before .no-money .ensures, c .before .before .no-money2 .ensures, c .before .no-amount .ensures, c .no-amount2 .ensures, c .before .before .before .before .before .before .before .charge .ensures, c .before .before .before .before .before .before .before .before .before .factor .ensures) refl
 
 pub loan-spec : {M : Type 1} → statement M
 loan-spec =

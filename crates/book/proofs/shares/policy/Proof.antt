@@ -1,4 +1,5 @@
-use Rattle.book.specs.Share.{policyShare}
+use mathlib.Core.Path.{refl}
+use Rattle.book_model.specs.Share.{policyShare}
 use borrow.Author.Needs.{needs}
 use Rattle.book.proofs.shares.policy.Statement.{statement}
 use Rattle.book.proofs.shares.policy.Tie as tie
@@ -23,11 +24,11 @@ rest-requires c κs = search needs
 
 returns : tie.Need-returns
 unfolding policyShare
-returns c = cc
+returns c = rw (c .before .before .enum-told .given .1, c .moved .ensures, c .before .provision-parts .ensures) refl
 
 returns-2 : tie.Need-returns-2
 unfolding policyShare
-returns-2 c = cc
+returns-2 c = rw (c .before .before .enum-told2 .given .1, c .rest .ensures, c .before .provision-parts2 .ensures) refl
 
 pub policy-spec : {M : Type 1} → statement M
 policy-spec =

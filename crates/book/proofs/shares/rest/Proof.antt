@@ -1,3 +1,4 @@
+use mathlib.Core.Path.{refl}
 use borrow.Author.Needs.{needs}
 use Rattle.book.proofs.shares.rest.Statement.{statement}
 use Rattle.book.proofs.shares.rest.Tie as tie
@@ -18,7 +19,8 @@ other-requires : tie.Need-other-requires
 other-requires c κs = search needs
 
 returns : tie.Need-returns
-returns c = cc
+returns c =
+    rw (c .other .ensures, c .before .before .before .before .in-cents .ensures, c .before .before .before .no-money .ensures, c .before .before .no-amount .ensures, c .before .no-amount2 .ensures) refl
 
 pub rest-spec : {M : Type 1} → statement M
 rest-spec =

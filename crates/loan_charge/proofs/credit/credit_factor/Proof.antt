@@ -18,11 +18,11 @@ unscored-factor-requires c κs = search needs
 
 returns : tie.Need-returns
 unfolding creditFactor
-returns c = cc
+returns c = rw (c .before .before .score .given .1) (c .scored-factor .ensures)
 
 returns-2 : tie.Need-returns-2
 unfolding creditFactor
-returns-2 c = cc
+returns-2 c = rw (c .before .enum-told .given .1) (c .unscored-factor .ensures)
 
 pub credit-factor-spec : {M : Type 1} → statement M
 credit-factor-spec =

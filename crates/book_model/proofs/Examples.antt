@@ -1,0 +1,50 @@
+-- The twelve examples, by computation. Assumes nothing.
+use mathlib.Core.Path.{_≡_, refl, ap, _∙_}
+use mathlib.Core.List.{map}
+use Rattle.exact.specs.Fraction.{ceiling}
+use Rattle.exact.proofs.Examples as exact
+use Rattle.loan_charge.proofs.Examples as loan
+use Rattle.other_charges.proofs.Examples as other
+use Rattle.line_forms.specs.Bytes.{allWithin, runOf, same, after}
+use Rattle.line_forms.specs.Numerals.{isNumeral, valueFrom, numberOf}
+use Rattle.line_forms.specs.Contents.{headerInRange, moneyInRange, assetInRange, amountInRange}
+use Rattle.line_forms.specs.Parsing.{numberAt, afterNumber, afterNegative, signedAt, afterSigned, placeOf, afterWord}
+use Rattle.line_forms.specs.Readings.{headerHeld, assetHeld, plainHeld, signedHeld, amountHeld, contentOf, lineFor, lineOf, headerFor, headerOf}
+use Rattle.other_charges.specs.Charges.{assetCharge, shareCharge}
+use Rattle.figures.specs.Sums.{sumOf}
+use Rattle.figures.specs.Figures.{requiredOf, admitted, capitalOf, ratioSize, ratioOf}
+use Rattle.report.specs.Decimal.{leading, digits, signed}
+use Rattle.book_model.specs.Share.{share, assetShare, amountShare}
+use Rattle.book_model.specs.Accepted.{isLoan, isUnscored, isOther, countOf, refusalFor, accept}
+use Rattle.book_model.specs.Exact.{amountRest, restOf, movedOf, sumOver}
+use Rattle.book_report.specs.Report.{ratioLine, reportText}
+use Rattle.book_model.specs.History.{headerIn, termsOf, acceptedOf, along, sumsOf, opened, standing}
+use Rattle.book_model.specs.Demand3.{figuresFor, reportFor}
+use Rattle.book_model.specs.Examples.{workedHeader, workedLines, workedReport, TwelveExamples}
+
+taken : standing (along (opened workedHeader) workedLines) ≡ workedLines
+unfolding allWithin runOf same after isNumeral valueFrom numberOf headerInRange moneyInRange assetInRange amountInRange numberAt afterNumber afterNegative signedAt afterSigned placeOf afterWord headerHeld assetHeld plainHeld signedHeld amountHeld contentOf lineFor lineOf headerFor headerOf isLoan isUnscored isOther countOf refusalFor accept headerIn termsOf acceptedOf along
+taken = refl
+
+-- the report of the four lines
+worked : reportFor (termsOf (opened workedHeader)) workedLines ≡ workedReport
+unfolding allWithin runOf same after isNumeral valueFrom numberOf headerInRange moneyInRange assetInRange amountInRange numberAt afterNumber afterNegative signedAt afterSigned placeOf afterWord headerHeld assetHeld plainHeld signedHeld amountHeld contentOf lineFor lineOf headerFor headerOf headerIn termsOf ceiling assetCharge shareCharge amountRest restOf movedOf sumOver share assetShare amountShare sumOf sumsOf requiredOf admitted capitalOf ratioSize ratioOf figuresFor reportFor ratioLine reportText leading digits signed
+worked = refl
+
+pub twelve : TwelveExamples
+twelve =
+    record {
+      example1 = exact.example1;
+      example2 = loan.example2;
+      example3 = loan.example3;
+      example4 = loan.example4;
+      example5 = loan.example5 .0;
+      example6 = loan.example6;
+      example7 = loan.example7;
+      example8 = other.example8;
+      example9 = other.example9;
+      example10 = (refl, refl);
+      example11 = refl;
+      taken12 = taken;
+      example12 = ap (reportFor (termsOf (opened workedHeader))) taken ∙ worked;
+    }

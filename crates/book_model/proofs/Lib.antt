@@ -1,0 +1,12 @@
+pub mod BoundedShares
+pub mod Bounds
+pub mod Closings
+pub mod Demand2
+pub mod Demand3
+pub mod ExactSums
+pub mod Examples
+pub mod Feeding
+pub mod Near
+pub mod Ranged
+pub mod Required
+pub mod Steps

@@ -1,0 +1,134 @@
+-- The sums of the loans' numbers near the exact sums, from some order on with exp(-y) taken as 1 / E(m).
+-- Assumes nothing.
+use mathlib.Core.Path.{_≡_, refl}
+use mathlib.Core.List.{List, [], _∷_, map}
+use Prim.Native.Nat.{ℕ, _+_, _*_, _^_, _≤_}
+use native.Mathlib.Omega.{arith}
+use lib.Dec.{eqb}
+use Rattle.exact.specs.Fraction.{Fraction, quotient, whole, _⊕_, _≼_, _≈_}
+use Rattle.exact.specs.Quantity.{Eventually}
+use Rattle.exact.proofs.Fractions
+use Rattle.exact.proofs.Within.{Within, within-sum, within-alike, within-wider, within-same}
+use Rattle.exact.proofs.Quantities.{both, mapped, always}
+use Rattle.fixed_point.specs.declared.Signed.{Signed}
+use Rattle.loan_charge.specs.Computation.{Chargeable}
+use Rattle.loan_charge.specs.Charge.{NearExact, signedCents}
+use Rattle.loan_charge.specs.declared.charge.LoanCharge.{LoanCharge}
+use Rattle.loan_charge.proofs.ChargeLaws.{charge-near}
+use Rattle.loan_charge.specs.declared.Score.{Score}
+use Rattle.line_forms.specs.declared.Loan.{Loan}
+use Rattle.line_forms.specs.declared.Class.{Class}
+use Rattle.line_forms.specs.declared.Class.the-variants.{Home, Multi}
+use Rattle.line_forms.specs.declared.Item.{Item}
+use Rattle.line_forms.specs.declared.Item.the-variants.{Claims, Lossc, Stated, Equity, Aoci, B, C}
+use Rattle.line_forms.specs.declared.Line.{Line}
+use Rattle.line_forms.specs.declared.Line.the-variants.{Loan as LoanLine, Policy as PolicyLine, Derivative as DerivativeLine, Asset as AssetLine, Amount as AmountLine, Refusal}
+use Rattle.line_forms.specs.Readings.{lineOf}
+use Rattle.figures.specs.declared.Sums.{Sums}
+use Rattle.figures.specs.Sums.{sumOf, plus, signedSum}
+use Rattle.book_model.specs.Terms.{Terms, factorFor}
+use Rattle.book_model.specs.Share.{share, loanShare, loanNumbers, policyShare, derivativeShare, assetShare, amountShare}
+use Rattle.book_model.specs.Exact.{totalOf, supplementOf, sumOver}
+use Rattle.book_model.specs.Accepted.{isLoan, countOf}
+use Rattle.book_model.specs.History.{sumsOf}
+use Rattle.book_model.specs.Ranges.{LoanRanges, Ranged}
+use Rattle.book_model.proofs.Ranged.{ranged}
+
+-- so many loans, each within 1.05 cents
+abbrev width : ℕ → Fraction
+width n = quotient (105 * n) 100
+
+-- sums of numbers near exact sums, on their sides
+pub record Close (total supplement : Fraction) (s : Sums) (n : ℕ) : Type 0 where
+  pub near-total : Within total (signedCents (s .total)) (width n)
+  pub near-supplement : Within (signedCents (s .supplement)) supplement (width n)
+
+-- no loan
+none-close : (s : Sums) → s .total ≡ record { plus = 0; minus = 0 } → s .supplement ≡ record { plus = 0; minus = 0 } → Close (whole 0) (whole 0) s 0
+none-close s e f =
+    record {
+      near-total = rw e (within-wider (record { positive = omega arith }) (record { crossed = omega arith }) (within-same (record { positive = omega arith }) (record { positive = omega arith }) (record { crossed = refl })));
+      near-supplement = rw f (within-wider (record { positive = omega arith }) (record { crossed = omega arith }) (within-same (record { positive = omega arith }) (record { positive = omega arith }) (record { crossed = refl })));
+    }
+
+-- one loan
+one-close : {total supplement : Fraction} (c : LoanCharge) (s : Sums) → s .total ≡ c .total → s .supplement ≡ c .supplement → NearExact c total supplement → Close total supplement s 1
+one-close {total} {supplement} c s e f n =
+    record {
+      near-total = rw e (record {
+        lower = n .total-proper;
+        upper = record { positive = omega arith };
+        width = record { positive = omega arith };
+        at-most = n .total-at-least;
+        near = Fractions.at-most-of-below (n .total-near);
+      });
+      near-supplement = rw f (record {
+        lower = record { positive = omega arith };
+        upper = n .supplement-proper;
+        width = record { positive = omega arith };
+        at-most = n .supplement-at-most;
+        near = record { crossed = omega (arith, n .supplement-near .crossed) };
+      });
+    }
+
+-- together
+sum-signed : (x y : Signed) → signedCents x ⊕ signedCents y ≈ signedCents (signedSum x y)
+sum-signed x y = record { crossed = omega arith }
+
+sum-width : (m n : ℕ) → width m ⊕ width n ≼ width (m + n)
+sum-width m n = record { crossed = omega arith }
+
+sum-close : {a b c d : Fraction} {x y : Sums} {m n : ℕ} → Close a b x m → Close c d y n → Close (a ⊕ c) (b ⊕ d) (plus x y) (m + n)
+sum-close {x = x} {y = y} {m = m} {n = n} h k =
+    record {
+      near-total = within-wider (record { positive = omega arith }) (sum-width m n)
+          (within-alike (Fractions.proper-sum (h .near-total .lower) (k .near-total .lower)) (record { positive = omega arith }) (Fractions.same-refl _) (sum-signed (x .total) (y .total)) (within-sum (h .near-total) (k .near-total)));
+      near-supplement = within-wider (record { positive = omega arith }) (sum-width m n)
+          (within-alike (record { positive = omega arith }) (Fractions.proper-sum (h .near-supplement .upper) (k .near-supplement .upper)) (sum-signed (x .supplement) (y .supplement)) (Fractions.same-refl _) (within-sum (h .near-supplement) (k .near-supplement)));
+    }
+
+-- Terms under which every loan can be charged
+pub record GoodTerms (t : Terms) : Type 0 where
+  pub factors : (s : Score) → factorFor t s ≤ 3 * 10 ^ 17
+
+pub chargeable : {t : Terms} → GoodTerms t → (l : Loan) → LoanRanges l → Chargeable (l .balance) (l .balance) (l .amortization) (factorFor t (l .score))
+chargeable g l r =
+    record {
+      divisor-least = r .balance-least;
+      divisor-most = omega (arith, r .balance-most);
+      balance-most = r .balance-most;
+      months-least = r .months-least;
+      months-most = r .months-most;
+      factor-most = g .factors (l .score);
+    }
+
+no-loan : (i : Item) (x : Signed) → (amountShare i x .total ≡ record { plus = 0; minus = 0 }) × (amountShare i x .supplement ≡ record { plus = 0; minus = 0 })
+unfolding amountShare
+no-loan Claims x = (refl, refl)
+no-loan Lossc x = (refl, refl)
+no-loan Stated x = (refl, refl)
+no-loan Equity x = (refl, refl)
+no-loan Aoci x = (refl, refl)
+no-loan B x = (refl, refl)
+no-loan C x = (refl, refl)
+
+no-loan-policy : (c : Class) (premium term completed : ℕ) → (policyShare c premium term completed .total ≡ record { plus = 0; minus = 0 }) × (policyShare c premium term completed .supplement ≡ record { plus = 0; minus = 0 })
+unfolding policyShare
+no-loan-policy Home premium term completed = (refl, refl)
+no-loan-policy Multi premium term completed = (refl, refl)
+
+line-close : {t : Terms} → GoodTerms t → (l : Line) → Ranged l → Eventually (λ x. Close (totalOf t l .value x) (supplementOf t l .value x) (share t l) (isLoan l))
+unfolding totalOf supplementOf share loanShare loanNumbers derivativeShare assetShare isLoan
+line-close {t} g (LoanLine l) r =
+    mapped (λ m n. one-close (loanNumbers t l) (loanShare t l) refl refl n)
+    (charge-near (l .value) (l .balance) (l .balance) (l .amortization) (l .term) (factorFor t (l .score)) (chargeable g l r) (eqb (l .supplement) 1))
+line-close {t} g (PolicyLine p) r = always (λ m. none-close _ (no-loan-policy (p .class) (p .premium) (p .term) (p .completed) .0) (no-loan-policy (p .class) (p .premium) (p .term) (p .completed) .1))
+line-close {t} g (DerivativeLine d) r = always (λ m. none-close _ refl refl)
+line-close {t} g (AssetLine a) r = always (λ m. none-close _ refl refl)
+line-close {t} g (AmountLine a) r = always (λ m. none-close _ (no-loan (a .item) (a .amount) .0) (no-loan (a .item) (a .amount) .1))
+line-close {t} g (Refusal n) r = always (λ m. none-close _ refl refl)
+
+pub list-close : {t : Terms} → GoodTerms t → (kept : List (List ℕ)) → Eventually (λ x. Close (sumOver (λ l. totalOf t l .value x) kept) (sumOver (λ l. supplementOf t l .value x) kept) (sumsOf t kept) (countOf isLoan kept))
+unfolding sumOver sumsOf sumOf countOf
+list-close g [] = always (λ m. none-close _ refl refl)
+list-close {t} g (s ∷ kept) = mapped (λ m h. sum-close (h .0) (h .1)) (both (line-close g (lineOf s) (ranged s)) (list-close g kept))

@@ -1,0 +1,34 @@
+-- The numbers of a line or header that is read lie within their ranges, by the laws of line reading.
+-- Assumes nothing.
+use mathlib.Core.Path.{_≡_, refl}
+use mathlib.Core.List.{List}
+use Prim.Native.Nat.{ℕ}
+use Rattle.line_forms.specs.declared.Line.{Line}
+use Rattle.line_forms.specs.declared.Line.the-variants.{Loan as LoanLine, Policy as PolicyLine, Derivative as DerivativeLine, Asset as AssetLine, Amount as AmountLine, Refusal}
+use Rattle.line_forms.specs.declared.HeaderLine.{HeaderLine}
+use Rattle.line_forms.specs.declared.HeaderLine.the-variants.{Header as HeaderRead, Refusal as HeaderRefusal}
+use Rattle.line_forms.specs.Readings.{lineOf, headerOf}
+use Rattle.line_forms.proofs.Bounds.{LoanBounds, loan-bounds, PolicyBounds, policy-bounds, DerivativeBounds, derivative-bounds, AssetBounds, asset-bounds, AmountBounds, amount-bounds, HeaderBounds, header-bounds}
+use Rattle.book_model.specs.Ranges.{Ranged, RangedHeader}
+
+pub ranged : (s : List ℕ) → Ranged (lineOf s)
+ranged s = go (lineOf s) refl
+  where
+    go : (l : Line) → lineOf s ≡ l → Ranged l
+    go (LoanLine l) e =
+        let b : LoanBounds l = loan-bounds s l e in
+        record { balance-least = b .balance .low; balance-most = b .balance .high; months-least = b .amortization .low; months-most = b .amortization .high }
+    go (PolicyLine p) e = let b : PolicyBounds p = policy-bounds s p e in record { premium = b .premium .high }
+    go (DerivativeLine d) e =
+        let b : DerivativeBounds d = derivative-bounds s d e in
+        record { cost = b .cost .plus .high; notional = b .notional .high; payments = b .payments .high; factor = b .factor .high }
+    go (AssetLine a) e = let b : AssetBounds a = asset-bounds s a e in record { amount = b .amount .high; factor = b .factor .high }
+    go (AmountLine a) e = let b : AmountBounds a = amount-bounds s a e in record { plus = b .plus .high; minus = b .minus .high }
+    go (Refusal n) e = tt
+
+pub ranged-header : (s : List ℕ) → RangedHeader (headerOf s)
+ranged-header s = go (headerOf s) refl
+  where
+    go : (l : HeaderLine) → headerOf s ≡ l → RangedHeader l
+    go (HeaderRead h) e = let b : HeaderBounds h = header-bounds s h e in record { loans = b .loans .high; unscored = b .unscored; held = b .held .high }
+    go (HeaderRefusal n) e = tt

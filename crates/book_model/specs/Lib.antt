@@ -1,0 +1,11 @@
+pub mod Accepted
+pub mod Calls
+pub mod Demand2
+pub mod Demand3
+pub mod Examples
+pub mod Exact
+pub mod History
+pub mod Ranges
+pub mod Requirement
+pub mod Share
+pub mod Terms

@@ -1,0 +1,114 @@
+-- What a line adds to the sums of its book (document 01, "The rest, and closing"): plain numbers, each line's by itself.
+-- Amounts of rest and moved are in ten-millionths of a cent, the paper's exact charges by the laws of other_charges.
+use Prim.Native.Nat.{ℕ, _-_}
+use mathlib.Core.Bool.{Bool, true, false}
+use lib.Dec.{eqb}
+use Rattle.fixed_point.specs.declared.Signed.{Signed}
+use Rattle.loan_charge.specs.Computation.{chargeOf}
+use Rattle.loan_charge.specs.declared.Score.{Score}
+use Rattle.loan_charge.specs.declared.Score.the-variants.{Scored, Unscored}
+use Rattle.loan_charge.specs.declared.charge.LoanCharge.{LoanCharge}
+use Rattle.line_forms.specs.declared.Loan.{Loan}
+use Rattle.line_forms.specs.declared.Policy.{Policy}
+use Rattle.line_forms.specs.declared.Class.{Class}
+use Rattle.line_forms.specs.declared.Class.the-variants.{Home, Multi}
+use Rattle.line_forms.specs.declared.Derivative.{Derivative}
+use Rattle.line_forms.specs.declared.Asset.{Asset}
+use Rattle.line_forms.specs.declared.Amount.{Amount}
+use Rattle.line_forms.specs.declared.Item.{Item}
+use Rattle.line_forms.specs.declared.Item.the-variants.{Claims, Lossc, Stated, Equity, Aoci, B, C}
+use Rattle.line_forms.specs.declared.Line.{Line}
+use Rattle.line_forms.specs.declared.Line.the-variants.{Loan as LoanLine, Policy as PolicyLine, Derivative as DerivativeLine, Asset as AssetLine, Amount as AmountLine, Refusal}
+use Rattle.other_charges.specs.Charges.{claimsPercent, lossComponentsPercent, statedPercent}
+use Rattle.other_charges.specs.Parts.{assetParts, shareParts, derivativeParts, provisionParts}
+use Rattle.figures.specs.declared.Money.{Money}
+use Rattle.figures.specs.declared.Sums.{Sums}
+use Rattle.figures.specs.Sums.{noSums, zeroSigned, zeroMoney, moneyOf}
+use Rattle.book_model.specs.Terms.{Terms, factorFor}
+
+-- 1 for a loan without a score, else 0
+unfoldable pub unscoredCount : Score → ℕ
+unscoredCount (Scored number age) = 0
+unscoredCount Unscored = 1
+
+-- the two numbers of a loan
+unfoldable pub loanNumbers : Terms → Loan → LoanCharge
+loanNumbers t l =
+    chargeOf (l .value) (l .balance) (l .balance) (l .amortization) (l .term) (eqb (l .supplement) 1) (factorFor t (l .score))
+
+unfoldable pub loanShare : Terms → Loan → Sums
+loanShare t l = record {
+  loans = 1;
+  unscored = unscoredCount (l .score);
+  other = 0;
+  total = loanNumbers t l .total;
+  supplement = loanNumbers t l .supplement;
+  rest = zeroMoney;
+  moved = zeroMoney;
+  equity = zeroSigned;
+  aoci = zeroSigned;
+  b = 0;
+  c = 0;
+}
+
+-- a line that is no loan, with what it adds to each sum
+abbrev pub otherShare : (rest moved : Money) (equity aoci : Signed) (b c : ℕ) → Sums
+otherShare rest moved equity aoci b c = record {
+  loans = 0;
+  unscored = 0;
+  other = 1;
+  total = zeroSigned;
+  supplement = zeroSigned;
+  rest = rest;
+  moved = moved;
+  equity = equity;
+  aoci = aoci;
+  b = b;
+  c = c;
+}
+
+-- a line that adds n ten-millionths of a cent to rest
+abbrev pub restShare : ℕ → Sums
+restShare n = otherShare (moneyOf n) zeroMoney zeroSigned zeroSigned 0 0
+
+-- a line that adds n ten-millionths of a cent to moved
+abbrev pub movedShare : ℕ → Sums
+movedShare n = otherShare zeroMoney (moneyOf n) zeroSigned zeroSigned 0 0
+
+-- a line that adds to capital
+abbrev pub capitalShare : (equity aoci : Signed) (b c : ℕ) → Sums
+capitalShare equity aoci b c = otherShare zeroMoney zeroMoney equity aoci b c
+
+-- multi-unit provisions count 1.25 times, in ten-thousandths
+abbrev pub multiFactor : ℕ
+multiFactor = 12500
+
+-- Home provisions only move between headings.
+unfoldable pub policyShare : Class → (premium term completed : ℕ) → Sums
+policyShare Home premium term completed = movedShare (provisionParts premium term completed 10000)
+policyShare Multi premium term completed = restShare (provisionParts premium term completed multiFactor)
+
+unfoldable pub derivativeShare : Derivative → Sums
+derivativeShare d =
+    restShare (derivativeParts (d .kind) (d .cost .plus - d .cost .minus) (d .notional) (d .months) (d .payments) (d .factor))
+
+unfoldable pub assetShare : Asset → Sums
+assetShare a = restShare (assetParts (a .amount) (a .factor))
+
+unfoldable pub amountShare : Item → Signed → Sums
+amountShare Claims x = restShare (shareParts (x .plus) claimsPercent)
+amountShare Lossc x = restShare (shareParts (x .plus) lossComponentsPercent)
+amountShare Stated x = restShare (shareParts (x .plus) statedPercent)
+amountShare Equity x = capitalShare x zeroSigned 0 0
+amountShare Aoci x = capitalShare zeroSigned x 0 0
+amountShare B x = capitalShare zeroSigned zeroSigned (x .plus) 0
+amountShare C x = capitalShare zeroSigned zeroSigned 0 (x .plus)
+
+-- a refused line adds nothing
+unfoldable pub share : Terms → Line → Sums
+share t (LoanLine l) = loanShare t l
+share t (PolicyLine p) = policyShare (p .class) (p .premium) (p .term) (p .completed)
+share t (DerivativeLine d) = derivativeShare d
+share t (AssetLine a) = assetShare a
+share t (AmountLine a) = amountShare (a .item) (a .amount)
+share t (Refusal n) = noSums

@@ -1,0 +1,27 @@
+// A book, and what opening, feeding and closing answer. The calls are in the crate book.
+use figures::Sums;
+use line_forms::Header;
+
+// A book: its header, which never changes, and the sums of the lines taken.
+pub struct Book {
+    pub header: Header,
+    pub sums: Sums,
+}
+
+// The answer of opening: a refusal, 0 for none, and the book.
+pub struct Opened {
+    pub refusal: u64,
+    pub book: Book,
+}
+
+// The answer of feeding: a refusal, 0 for none, and the book.
+pub struct Fed {
+    pub refusal: u64,
+    pub book: Book,
+}
+
+// The answer of closing: a refusal, 0 for none, and the length of the report written, 0 where refused.
+pub struct Closed {
+    pub refusal: u64,
+    pub length: usize,
+}
