@@ -171,12 +171,12 @@ regroup a b c d e f = simp append-assoc
 -- the eighth line among the ten
 eighth : (f : Figures) →
     reportText f ≡
-    (headText (f .loans) (f .total) (f .supplement) (f .home) (f .moved) ++ (valueLine "rest" (unsigned (f .rest)) ++ valueLine "oper" (unsigned (f .oper))))
+    (headText f ++ (valueLine "rest" (unsigned (f .rest)) ++ valueLine "oper" (unsigned (f .oper))))
     ++ valueLine "required" (unsigned (f .required))
     ++ (valueLine "capital" (f .capital) ++ ratioLine (f .ratio))
 unfolding reportText
 eighth f =
-    regroup (headText (f .loans) (f .total) (f .supplement) (f .home) (f .moved)) (valueLine "rest" (unsigned (f .rest))) (valueLine "oper" (unsigned (f .oper)))
+    regroup (headText f) (valueLine "rest" (unsigned (f .rest))) (valueLine "oper" (unsigned (f .oper)))
     (valueLine "required" (unsigned (f .required))) (valueLine "capital" (f .capital)) (ratioLine (f .ratio))
 
 whole-text : (n : ℕ) → signed (unsigned n) ≡ digits n
@@ -192,7 +192,7 @@ measured-of h kept =
     let f : Figures = figuresFor (termsWith h) kept in
     record {
       required = f .required;
-      before = headText (f .loans) (f .total) (f .supplement) (f .home) (f .moved) ++ (valueLine "rest" (unsigned (f .rest)) ++ valueLine "oper" (unsigned (f .oper)));
+      before = headText f ++ (valueLine "rest" (unsigned (f .rest)) ++ valueLine "oper" (unsigned (f .oper)));
       after = valueLine "capital" (f .capital) ++ ratioLine (f .ratio);
       line-eight = rw (← whole-text (f .required)) (eighth f);
       read-back = digits-value (f .required);

@@ -23,24 +23,23 @@ unfoldable pub ratioLine : Ratio → List ℕ
 ratioLine (Number value) = valueLine "ratio" value
 ratioLine None = line (text "ratio") (text "none" ∷ [])
 
--- the first five lines and the last five
-abbrev pub headText : (loans : ℕ) (total supplement : Signed) (home moved : ℕ) → List ℕ
-headText loans total supplement home moved =
-    valueLine "loans" (unsigned loans)
-    ++ valueLine "total" total
-    ++ valueLine "supplement" supplement
-    ++ valueLine "home" (unsigned home)
-    ++ valueLine "moved" (unsigned moved)
+-- the first five lines
+abbrev pub headText : Figures → List ℕ
+headText f =
+    valueLine "loans" (unsigned (f .loans))
+    ++ valueLine "total" (f .total)
+    ++ valueLine "supplement" (f .supplement)
+    ++ valueLine "home" (unsigned (f .home))
+    ++ valueLine "moved" (unsigned (f .moved))
 
-abbrev pub tailText : (rest oper required : ℕ) (capital : Signed) (ratio : Ratio) → List ℕ
-tailText rest oper required capital ratio =
-    valueLine "rest" (unsigned rest)
-    ++ valueLine "oper" (unsigned oper)
-    ++ valueLine "required" (unsigned required)
-    ++ valueLine "capital" capital
-    ++ ratioLine ratio
+-- the last five
+abbrev pub tailText : Figures → List ℕ
+tailText f =
+    valueLine "rest" (unsigned (f .rest))
+    ++ valueLine "oper" (unsigned (f .oper))
+    ++ valueLine "required" (unsigned (f .required))
+    ++ valueLine "capital" (f .capital)
+    ++ ratioLine (f .ratio)
 
 unfoldable pub reportText : Figures → List ℕ
-reportText f =
-    headText (f .loans) (f .total) (f .supplement) (f .home) (f .moved)
-    ++ tailText (f .rest) (f .oper) (f .required) (f .capital) (f .ratio)
+reportText f = headText f ++ tailText f

@@ -1,43 +1,41 @@
 // The report's ten lines, each written to what remains of the lent buffer.
-ghost use Prim.Native.Nat.{_≤_};
+ghost use Prim.Native.Nat.{_+_, _≤_};
+ghost use mathlib.Core.List.{[], _∷_};
 ghost use mathlib.Core.Path.{_≡_};
 ghost use lib.ListN.{length};
-ghost use Rattle.report.specs.Line.{Written};
-ghost use Rattle.book_report.specs.Report.{ratioLine, headText, tailText, reportText};
+ghost use Rattle.report.specs.Decimal.{signed};
+ghost use Rattle.report.specs.Line.{line, Written, Added};
+ghost use Rattle.book_report.specs.Report.{unsigned, ratioLine, headText, tailText, reportText};
 use figures::Figures;
 use figures::Ratio;
 use fixed_point::Signed;
 
-// The first five lines.
-fn put_head(
-    out: &mut [u8],
-    loans: u64,
-    total: Signed,
-    supplement: Signed,
-    home: u64,
-    moved: u64,
-) -> usize
-    requires { ⌜ 200 ≤ length (now out) ⌝ }
-    ensures lines { λ r. ⌜ Written (now (out .entry)) (headText loans total supplement home moved) r (now (out .exit)) ⌝ }
-    ensures short { λ r. ⌜ r ≤ 180 ⌝ }
+// A line with a number that has no sign.
+fn add_unsigned(out: &mut [u8], at: usize, name: &[u8], number: u64) -> usize
+    requires { ⌜ at + length (now name) + 25 ≤ length (now out) ⌝ }
+    ensures line { λ r. ⌜ Added (now (out .entry)) at (line (now (name .entry)) (signed (unsigned number) ∷ [])) r (now (out .exit)) ⌝ }
+    ensures short { λ r. ⌜ r ≤ at + length (now (name .entry)) + 25 ⌝ }
 {
-    let count = Signed {
-        plus: loans,
+    let value = Signed {
+        plus: number,
         minus: 0,
     };
-    let homes = Signed {
-        plus: home,
-        minus: 0,
-    };
-    let moves = Signed {
-        plus: moved,
-        minus: 0,
-    };
-    let one = report::put_line(out, b"loans", count);
-    let two = one + report::put_line(&mut out[one..], b"total", total);
-    let three = two + report::put_line(&mut out[two..], b"supplement", supplement);
-    let four = three + report::put_line(&mut out[three..], b"home", homes);
-    four + report::put_line(&mut out[four..], b"moved", moves)
+    report::add_line(out, at, name, value)
+}
+
+// The first five lines.
+fn put_head(out: &mut [u8], f: Figures) -> usize
+    requires { ⌜ 200 ≤ length (now out) ⌝ }
+    ensures lines { λ r. ⌜ Written (now (out .entry)) (headText f) r (now (out .exit)) ⌝ }
+    ensures short { λ r. ⌜ r ≤ 200 ⌝ }
+{
+    let total = f.total;
+    let supplement = f.supplement;
+    let one = add_unsigned(out, 0, b"loans", f.loans);
+    let two = report::add_line(out, one, b"total", total);
+    let three = report::add_line(out, two, b"supplement", supplement);
+    let four = add_unsigned(out, three, b"home", f.home);
+    add_unsigned(out, four, b"moved", f.moved)
 }
 
 fn put_ratio(out: &mut [u8], ratio: Ratio) -> usize
@@ -52,34 +50,17 @@ fn put_ratio(out: &mut [u8], ratio: Ratio) -> usize
 }
 
 // The last five lines.
-fn put_tail(
-    out: &mut [u8],
-    rest: u64,
-    oper: u64,
-    required: u64,
-    capital: Signed,
-    ratio: Ratio,
-) -> usize
+fn put_tail(out: &mut [u8], f: Figures) -> usize
     requires { ⌜ 200 ≤ length (now out) ⌝ }
-    ensures lines { λ r. ⌜ Written (now (out .entry)) (tailText rest oper required capital ratio) r (now (out .exit)) ⌝ }
-    ensures short { λ r. ⌜ r ≤ 180 ⌝ }
+    ensures lines { λ r. ⌜ Written (now (out .entry)) (tailText f) r (now (out .exit)) ⌝ }
+    ensures short { λ r. ⌜ r ≤ 200 ⌝ }
 {
-    let others = Signed {
-        plus: rest,
-        minus: 0,
-    };
-    let risk = Signed {
-        plus: oper,
-        minus: 0,
-    };
-    let whole = Signed {
-        plus: required,
-        minus: 0,
-    };
-    let one = report::put_line(out, b"rest", others);
-    let two = one + report::put_line(&mut out[one..], b"oper", risk);
-    let three = two + report::put_line(&mut out[two..], b"required", whole);
-    let four = three + report::put_line(&mut out[three..], b"capital", capital);
+    let capital = f.capital;
+    let ratio = f.ratio;
+    let one = add_unsigned(out, 0, b"rest", f.rest);
+    let two = add_unsigned(out, one, b"oper", f.oper);
+    let three = add_unsigned(out, two, b"required", f.required);
+    let four = report::add_line(out, three, b"capital", capital);
     four + put_ratio(&mut out[four..], ratio)
 }
 
@@ -87,10 +68,6 @@ pub fn put_report(out: &mut [u8], f: Figures) -> usize
     requires { ⌜ 512 ≤ length (now out) ⌝ }
     ensures { λ r. ⌜ Written (now (out .entry)) (reportText f) r (now (out .exit)) ⌝ }
 {
-    let total = f.total;
-    let supplement = f.supplement;
-    let capital = f.capital;
-    let ratio = f.ratio;
-    let head = put_head(out, f.loans, total, supplement, f.home, f.moved);
-    head + put_tail(&mut out[head..], f.rest, f.oper, f.required, capital, ratio)
+    let head = put_head(out, f);
+    head + put_tail(&mut out[head..], f)
 }

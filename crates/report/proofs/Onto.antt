@@ -7,7 +7,7 @@ use native.Mathlib.Omega.{arith}
 use native.Mathlib.Numerals.{add-one}
 use lib.ListN.{length, take, drop, getD, set, length-append, length-take, length-drop, length-set}
 use lib.Seq.{drop-cons, set-at, take-suc, drop-drop, take-at, drop-at, take-length, drop-length, length-take-le}
-use Rattle.report.specs.Line.{onto, Written}
+use Rattle.report.specs.Line.{onto, Written, Added}
 
 -- a buffer keeps its length
 pub onto-length : (old t : List ℕ) → length t ≤ length old → length (onto old t) ≡ length old
@@ -60,6 +60,37 @@ written-more {old} {t} {u} {xs} {ys} {a} {r} w v =
       count = ap₂ _+_ (w .count) (v .count) ∙ sym (length-append t u);
       bytes = rw (h, e, f) (rw (append-nil, length-append t u, drop-drop (length u) (length t) old, append-assoc) refl);
     }
+
+-- What a caller holds after `f(&mut out[a..])`, whatever stands before: `xs` is the buffer before the call, `ys` the part that `f` was lent as it left it.
+pub added :
+    {u xs ys : List ℕ} {a r : ℕ} →
+    Written (take (length xs - a) (drop a xs)) u r ys →
+    Added xs a u (a + r) (take a xs ++ (ys ++ drop (length xs - a) (drop a xs)))
+added {u} {xs} {ys} {a} {r} v =
+    let n : length xs - a ≡ length (drop a xs) = sym (length-drop a xs) in
+    let e : ys ≡ onto (drop a xs) u = v .bytes ∙ ap (λ (l : List ℕ). onto l u) (ap (λ (k : ℕ). take k (drop a xs)) n ∙ take-length (drop a xs)) in
+    let f : drop (length xs - a) (drop a xs) ≡ [] = ap (λ (k : ℕ). drop k (drop a xs)) n ∙ drop-length (drop a xs) in
+    record {
+      count = ap (λ (k : ℕ). a + k) (v .count);
+      bytes = ap (λ (l : List ℕ). take a xs ++ l) (ap₂ _++_ e f ∙ append-nil (onto (drop a xs) u));
+    }
+
+-- The law that chains lines: u is added after t.
+pub written-then : {old t u xs ys : List ℕ} {a r : ℕ} → Written old t a xs → Added xs a u r ys → Written old (t ++ u) r ys
+unfolding onto
+written-then {old} {t} {u} {xs} {ys} {a} {r} w v =
+    let rest : List ℕ = drop (length t) old in
+    let d : drop a xs ≡ rest = rw (w .bytes, w .count) (drop-at t rest (length t) refl) in
+    let h : take a xs ≡ t = rw (w .bytes, w .count) (take-at t rest (length t) refl) in
+    record {
+      count = v .count ∙ ap (λ (k : ℕ). k + length u) (w .count) ∙ sym (length-append t u);
+      bytes = v .bytes ∙ rw (h, d, length-append t u, drop-drop (length u) (length t) old, append-assoc) refl;
+    }
+
+-- nothing is written yet
+pub nothing-written : (old : List ℕ) → Written old [] 0 old
+unfolding onto
+nothing-written old = record { count = refl; bytes = refl }
 
 -- what remains of a buffer after its first byte
 pub rest-length : (old : List ℕ) (b : ℕ) → length (take (length (set old 0 b) - 1) (drop 1 (set old 0 b))) ≡ length old - 1

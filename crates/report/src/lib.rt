@@ -2,11 +2,11 @@
 // bytes it wrote, and leaves the bytes after them; a line's pieces, and a report's lines, are each written to what remains of the buffer.
 use fixed_point::Signed;
 ghost use mathlib.Core.List.{[], _∷_, _++_};
-ghost use Prim.Native.Nat.{_≤_};
+ghost use Prim.Native.Nat.{_+_, _≤_};
 ghost use lib.ListN.{length};
 ghost use Rattle.exact.specs.Text.{text};
 ghost use Rattle.report.specs.Decimal.{digits, signed};
-ghost use Rattle.report.specs.Line.{line, refusalLine, Written};
+ghost use Rattle.report.specs.Line.{line, refusalLine, Written, Added};
 
 fn put_bytes(out: &mut [u8], s: &[u8]) -> usize
     requires { ⌜ length (now s) ≤ length (now out) ⌝ }
@@ -80,6 +80,15 @@ pub fn put_line(out: &mut [u8], name: &[u8], value: Signed) -> usize
     let named = put_marked(out, b'(', name);
     let at = named + put_value(&mut out[named..], value);
     at + put_bytes(&mut out[at..], b")\n")
+}
+
+// The same line after the first `at` bytes: what remains of the buffer is lent to `put_line`.
+pub fn add_line(out: &mut [u8], at: usize, name: &[u8], value: Signed) -> usize
+    requires { ⌜ at + length (now name) + 25 ≤ length (now out) ⌝ }
+    ensures line { λ r. ⌜ Added (now (out .entry)) at (line (now (name .entry)) (signed value ∷ [])) r (now (out .exit)) ⌝ }
+    ensures short { λ r. ⌜ r ≤ at + length (now (name .entry)) + 25 ⌝ }
+{
+    at + put_line(&mut out[at..], name, value)
 }
 
 // A line with a name and a word, as `(ratio none)`.

@@ -16,10 +16,10 @@ fn put_sample(out: &mut [u8], a: Signed, b: Signed) -> usize
         plus: a.minus,
         minus: a.plus,
     };
-    let one = report::put_line(out, b"total", a);
-    let two = one + report::put_line(&mut out[one..], b"supplement", back);
-    let three = two + report::put_line(&mut out[two..], b"capital", b);
-    let four = three + report::put_line(&mut out[three..], b"required", a);
+    let one = report::add_line(out, 0, b"total", a);
+    let two = report::add_line(out, one, b"supplement", back);
+    let three = report::add_line(out, two, b"capital", b);
+    let four = report::add_line(out, three, b"required", a);
     four + report::put_word_line(&mut out[four..], b"ratio", b"none")
 }
 

@@ -1,10 +1,10 @@
+use mathlib.Core.Path.{_≡_}
+use native.Mathlib.Omega.{arith}
+use borrow.Author.Needs.{needs}
 use Rattle.exact.specs.Text.{text}
 use Rattle.figures.specs.declared.Ratio.the-variants.{Number, None}
 use Rattle.report.proofs.Lines.{value-line-length}
 use Rattle.book_report.specs.Report.{ratioLine}
-use mathlib.Core.Path.{_≡_}
-use native.Mathlib.Omega.{arith}
-use borrow.Author.Needs.{needs}
 use Rattle.book_report.proofs.put_ratio.Statement.{statement}
 use Rattle.book_report.proofs.put_ratio.Tie as tie
 

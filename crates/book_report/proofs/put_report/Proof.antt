@@ -1,7 +1,7 @@
-use Rattle.book_report.specs.Report.{reportText}
-use Rattle.report.proofs.Onto.{written-more}
 use native.Mathlib.Omega.{arith}
 use borrow.Author.Needs.{needs}
+use Rattle.book_report.specs.Report.{reportText}
+use Rattle.report.proofs.Onto.{written-more}
 use Rattle.book_report.proofs.put_report.Statement.{statement}
 use Rattle.book_report.proofs.put_report.Tie as tie
 

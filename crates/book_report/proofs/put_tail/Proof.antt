@@ -1,133 +1,74 @@
-use Rattle.exact.specs.Text.{text}
-use Rattle.book_report.specs.Report.{unsigned, valueLine}
-use Rattle.report.proofs.Lines.{value-line-length}
-use Rattle.report.proofs.Onto.{written-more}
-use Prim.Native.Nat.{_≤_}
+-- `put_tail` meets its contract.
+use Prim.Native.Nat.{_-_}
 use native.Mathlib.Omega.{arith}
-use lib.ListN.{length}
 use borrow.Author.Needs.{needs}
+use Rattle.report.proofs.Onto.{nothing-written, written-then, written-more}
 use Rattle.book_report.proofs.put_tail.Statement.{statement}
 use Rattle.book_report.proofs.put_tail.Tie as tie
 
--- no line is longer than its name and 25 bytes
-lines :
-    (c : tie.Start) →
-    (length (valueLine "rest" (unsigned (c .args .rest))) ≤ 29)
-    × (length (valueLine "oper" (unsigned (c .args .oper))) ≤ 29)
-    × (length (valueLine "required" (unsigned (c .args .required))) ≤ 33)
-    × (length (valueLine "capital" (c .args .capital)) ≤ 32)
-lines c = (
-  value-line-length (text "rest") (unsigned (c .args .rest)) (omega arith) (omega arith),
-  value-line-length (text "oper") (unsigned (c .args .oper)) (omega arith) (omega arith),
-  value-line-length (text "required") (unsigned (c .args .required)) (omega arith) (omega arith),
-  value-line-length (text "capital") (c .args .capital) (omega arith) (omega arith),
-)
+slice-aggregate-add-unsigned : tie.Need-slice-aggregate-add-unsigned
+slice-aggregate-add-unsigned c = search needs
 
-slice-aggregate-put-line : tie.Need-slice-aggregate-put-line
-slice-aggregate-put-line c = search needs
+add-unsigned-requires : tie.Need-add-unsigned-requires
+add-unsigned-requires c κs = search needs
 
-put-line-requires : tie.Need-put-line-requires
-put-line-requires c κs = omega (arith, lines (c .before .before .before))
+slice-aggregate-add-unsigned-2 : tie.Need-slice-aggregate-add-unsigned-2
+slice-aggregate-add-unsigned-2 c = search needs
 
-sub-put-line : tie.Need-sub-put-line
-sub-put-line c = omega (arith, lines (c .before .before .before .before .before .before))
+add-unsigned-requires-2 : tie.Need-add-unsigned-requires-2
+add-unsigned-requires-2 c κs = search needs
 
-part-put-line-start : tie.Need-part-put-line-start
-part-put-line-start c = omega (arith, lines (c .before .before .before .before .before .before))
+slice-aggregate-add-unsigned-3 : tie.Need-slice-aggregate-add-unsigned-3
+slice-aggregate-add-unsigned-3 c = search needs
 
-part-put-line-end : tie.Need-part-put-line-end
-part-put-line-end c = search needs
+add-unsigned-requires-3 : tie.Need-add-unsigned-requires-3
+add-unsigned-requires-3 c κs = search needs
 
-slice-aggregate-put-line-2 : tie.Need-slice-aggregate-put-line-2
-slice-aggregate-put-line-2 c = search needs
+slice-aggregate-add-line : tie.Need-slice-aggregate-add-line
+slice-aggregate-add-line c = search needs
 
-put-line-requires-2 : tie.Need-put-line-requires-2
-put-line-requires-2 c κs = omega (arith, lines (c .before .before .before .before .before .before .before .before))
-
-add-two : tie.Need-add-two
-add-two c = omega (arith, lines (c .before .before .before .before .before .before .before .before .before .before .before))
-
-sub-put-line-2 : tie.Need-sub-put-line-2
-sub-put-line-2 c = omega (arith, lines (c .before .before .before .before .before .before .before .before .before .before .before))
-
-part-put-line-start-2 : tie.Need-part-put-line-start-2
-part-put-line-start-2 c = omega (arith, lines (c .before .before .before .before .before .before .before .before .before .before .before))
-
-part-put-line-end-2 : tie.Need-part-put-line-end-2
-part-put-line-end-2 c = search needs
-
-slice-aggregate-put-line-3 : tie.Need-slice-aggregate-put-line-3
-slice-aggregate-put-line-3 c = search needs
-
-put-line-requires-3 : tie.Need-put-line-requires-3
-put-line-requires-3 c κs = omega (arith, lines (c .before .before .before .before .before .before .before .before .before .before .before .before .before))
-
-add-three : tie.Need-add-three
-add-three c = omega (arith, lines (c .before .before .before .before .before .before .before .before .before .before .before .before .before .before .before .before))
-
-sub-put-line-3 : tie.Need-sub-put-line-3
-sub-put-line-3 c = omega (arith, lines (c .before .before .before .before .before .before .before .before .before .before .before .before .before .before .before .before))
-
-part-put-line-start-3 : tie.Need-part-put-line-start-3
-part-put-line-start-3 c = omega (arith, lines (c .before .before .before .before .before .before .before .before .before .before .before .before .before .before .before .before))
-
-part-put-line-end-3 : tie.Need-part-put-line-end-3
-part-put-line-end-3 c = search needs
-
-slice-aggregate-put-line-4 : tie.Need-slice-aggregate-put-line-4
-slice-aggregate-put-line-4 c = search needs
-
-put-line-requires-4 : tie.Need-put-line-requires-4
-put-line-requires-4 c κs = omega (arith, lines (c .before .before .before .before .before .before .before .before .before .before .before .before .before .before .before .before .before .before))
-
-add-four : tie.Need-add-four
-add-four c = omega (arith, lines (c .before .before .before .before .before .before .before .before .before .before .before .before .before .before .before .before .before .before .before .before .before))
+add-line-requires : tie.Need-add-line-requires
+add-line-requires c κs = search needs
 
 sub-put-ratio : tie.Need-sub-put-ratio
-sub-put-ratio c = omega (arith, lines (c .before .before .before .before .before .before .before .before .before .before .before .before .before .before .before .before .before .before .before .before .before))
+sub-put-ratio c = search needs
 
 part-put-ratio-start : tie.Need-part-put-ratio-start
-part-put-ratio-start c = omega (arith, lines (c .before .before .before .before .before .before .before .before .before .before .before .before .before .before .before .before .before .before .before .before .before))
+part-put-ratio-start c = search needs
 
 part-put-ratio-end : tie.Need-part-put-ratio-end
 part-put-ratio-end c = search needs
 
 put-ratio-requires : tie.Need-put-ratio-requires
-put-ratio-requires c κs = omega (arith, lines (c .before .before .before .before .before .before .before .before .before .before .before .before .before .before .before .before .before .before .before .before .before .before))
+put-ratio-requires c κs = search needs
 
 add-result : tie.Need-add-result
-add-result c = omega (arith, lines (c .before .before .before .before .before .before .before .before .before .before .before .before .before .before .before .before .before .before .before .before .before .before .before .before .before), c .before .before .put-ratio .ensures .1)
+add-result c = search needs
 
 same-length : tie.Need-same-length
-same-length c = omega (arith, lines (c .before .before .before .before .before .before .before .before .before .before .before .before .before .before .before .before .before .before .before .before .before .before .before .before .before))
+same-length c = search needs
 
 returns : tie.Need-returns
-returns c = (written-more (written-more (written-more (written-more (c .before .before .before .before .before .before .before .before .before .before .before .before .before .before .before .before .before .before .before .before .before .put-line .ensures) (c .before .before .before .before .before .before .before .before .before .before .before .before .before .before .before .before .put-line2 .ensures)) (c .before .before .before .before .before .before .before .before .before .before .before .put-line3 .ensures)) (c .before .before .before .before .before .before .put-line4 .ensures)) (c .before .before .put-ratio .ensures .0), omega (arith, lines (c .before .before .before .before .before .before .before .before .before .before .before .before .before .before .before .before .before .before .before .before .before .before .before .before .before), c .before .before .before .before .before .before .before .before .before .before .before .before .before .before .before .before .before .before .before .before .before .put-line .ensures .count, c .before .before .before .before .before .before .before .before .before .before .before .before .before .before .before .before .put-line2 .ensures .count, c .before .before .before .before .before .before .before .before .before .before .before .put-line3 .ensures .count, c .before .before .before .before .before .before .put-line4 .ensures .count, c .before .before .put-ratio .ensures .1))
+returns c =
+    let one = c .before .before .before .before .before .before .before .before .before .before .before .before .before .before .before .before .before .before .before .before .before .add-unsigned .ensures .0 in
+    let two = c .before .before .before .before .before .before .before .before .before .before .before .before .before .before .before .before .add-unsigned2 .ensures .0 in
+    let three = c .before .before .before .before .before .before .before .before .before .before .before .add-unsigned3 .ensures .0 in
+    let four = c .before .before .before .before .before .before .add-line .ensures .0 in
+    let five = c .before .before .put-ratio .ensures .0 in
+    (written-more (written-then (written-then (written-then (written-then (nothing-written (c .before .before .before .before .before .before .before .before .before .before .before .before .before .before .before .before .before .before .before .before .before .before .before .before .before .before .args .out .now)) one) two) three) four) five, omega (arith, c .before .before .before .before .before .before .add-line .ensures .1, c .before .before .put-ratio .ensures .1))
 
 pub put-tail-spec : {M : Type 1} → statement M
 put-tail-spec =
     tie.close
     (tie.spec
-    slice-aggregate-put-line
-    put-line-requires
-    sub-put-line
-    part-put-line-start
-    part-put-line-end
-    slice-aggregate-put-line-2
-    put-line-requires-2
-    add-two
-    sub-put-line-2
-    part-put-line-start-2
-    part-put-line-end-2
-    slice-aggregate-put-line-3
-    put-line-requires-3
-    add-three
-    sub-put-line-3
-    part-put-line-start-3
-    part-put-line-end-3
-    slice-aggregate-put-line-4
-    put-line-requires-4
-    add-four
+    slice-aggregate-add-unsigned
+    add-unsigned-requires
+    slice-aggregate-add-unsigned-2
+    add-unsigned-requires-2
+    slice-aggregate-add-unsigned-3
+    add-unsigned-requires-3
+    slice-aggregate-add-line
+    add-line-requires
     sub-put-ratio
     part-put-ratio-start
     part-put-ratio-end
