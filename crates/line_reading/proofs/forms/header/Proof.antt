@@ -1,6 +1,9 @@
 -- `forms::header` meets its contract.
+use mathlib.Core.Path.{_≡_}
 use borrow.Author.Needs.{needs}
 use borrow.Author.Tests.{eq-eqb, ne-eqb}
+use Rattle.exact.specs.Text.{text}
+use Rattle.line_forms.specs.Bytes.{after}
 use Rattle.line_forms.specs.Readings.{headerHeld}
 use Rattle.line_reading.proofs.forms.header.Statement.{statement}
 use Rattle.line_reading.proofs.forms.header.Tie as tie
@@ -48,8 +51,9 @@ returns c =
     let n2 = c .before .before .before .before .before .before .before .before .before .before .number-after2 in
     let n3 = c .before .before .before .before .before .before .pair-after in
     let n4 = c .before .before .before .before .number-after3 in
+    let end : _ ≡ after _ _ (text "))") = c .before .before .skip .ensures in
     rw
-    (← n1 .ensures .1, ← n2 .ensures .1, ← n3 .ensures .1, ← n4 .ensures .1, ← c .before .before .skip .ensures, eq-eqb _ _ (c .before .if1 .taken), ← n1 .ensures .0, ← n2 .ensures .0, ← n3 .ensures .0, ← n4 .ensures .0)
+    (← n1 .ensures .1, ← n2 .ensures .1, ← n3 .ensures .1, ← n4 .ensures .1, ← end, eq-eqb _ _ (c .before .if1 .taken), ← n1 .ensures .0, ← n2 .ensures .0, ← n3 .ensures .0, ← n4 .ensures .0)
 
 returns-2 : tie.Need-returns-2
 unfolding headerHeld
@@ -58,8 +62,9 @@ returns-2 c =
     let n2 = c .before .before .before .before .before .before .before .before .before .number-after2 in
     let n3 = c .before .before .before .before .before .pair-after in
     let n4 = c .before .before .before .number-after3 in
+    let end : _ ≡ after _ _ (text "))") = c .before .skip .ensures in
     rw
-    (← n1 .ensures .1, ← n2 .ensures .1, ← n3 .ensures .1, ← n4 .ensures .1, ← c .before .skip .ensures, ne-eqb _ _ (c .if1 .left))
+    (← n1 .ensures .1, ← n2 .ensures .1, ← n3 .ensures .1, ← n4 .ensures .1, ← end, ne-eqb _ _ (c .if1 .left))
 
 pub header-spec : {M : Type 1} → statement M
 header-spec =
