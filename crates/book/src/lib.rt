@@ -52,7 +52,7 @@ pub fn open(line: &[u8]) -> Opened
     ensures equation { λ r. ⌜ r ≡ opening (now (line .entry)) ⌝ }
     ensures sound { λ r. ⌜ Sound (r .book) ⌝ }
 {
-    let read = line_forms::read_header(line);
+    let read = line_reading::read_header(line);
     match read {
         HeaderLine::Header(header) => Opened {
             refusal: 0,
@@ -143,7 +143,7 @@ pub fn feed_with(b: Book, exps: &[u64; 1537], rates: &[u64; 66], line: &[u8]) ->
     ensures equation { λ r. ⌜ r ≡ feeding b (now (line .entry)) ⌝ }
     ensures sound { λ r. ⌜ Sound (r .book) ⌝ }
 {
-    let read = line_forms::read_line(line);
+    let read = line_reading::read_line(line);
     let Line::Refusal(refusal) = read else {
         return feed_line(b, exps, rates, read);
     };

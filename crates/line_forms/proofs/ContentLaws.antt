@@ -111,7 +111,7 @@ header-right : (s : List ℕ) → Right s (headerHeld s)
 unfolding headerHeld bytesOf
 header-right s =
     held-right headerForm s (λ v. header (headerWith v)) NoForm proper-header
-    (λ v k. inr (made s headerForm v (headerValues (headerWith v)) k (rw (scores-place (v .1 .1 .0) (k .1 .1 .1 .0)))))
+    (λ v k. inr (made s headerForm v (headerValues (headerWith v)) k (ap (λ (i : ℕ). (v .0, (v .1 .0, (i, v .1 .1 .1)))) (scores-place (v .1 .1 .0) (k .1 .1 .1 .0)))))
     (inl refl)
 
 loan-right : (s : List ℕ) → Right s (loanHeld s)

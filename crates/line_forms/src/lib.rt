@@ -1,32 +1,15 @@
-// From the bytes of a line to what it holds, and to the refusals that need only the line (01, "A book, line by line").
-mod fields;
-mod forms;
-mod ranges;
+// What a line holds, and the range of each number (01, "A book, line by line"). specs/ has the forms and what reading a line answers.
+pub mod ranges;
 
 ghost use mathlib.Core.Path.{_≡_};
 ghost use Rattle.line_forms.specs.Contents.{onAgedTable};
-ghost use Rattle.line_forms.specs.Readings.{lineOf, lineFor, headerOf, headerFor};
 use fixed_point::Signed;
 use loan_charge::Score;
-
-// A longer line is refused as 1.
-const LONGEST: usize = 240;
 
 // A part of a line read as a D.
 pub enum Number {
     Value(u64),
     Missing,
-}
-
-// A field's value and the position after it; past the end of the line where the field does not stand there.
-pub struct Found {
-    pub value: u64,
-    pub next: usize,
-}
-
-pub struct FoundSigned {
-    pub amount: Signed,
-    pub next: usize,
 }
 
 // The counts of loans and of loans without a score, whether the aged table serves, and the liabilities held for home loans in cents.
@@ -135,90 +118,4 @@ pub fn on_aged_table(h: Header) -> bool
     ensures { λ r. ⌜ r ≡ onAgedTable h ⌝ }
 {
     h.aged
-}
-
-fn line_for(c: Content) -> Line
-    ensures { λ r. ⌜ r ≡ lineFor c ⌝ }
-{
-    match c {
-        Content::NoForm => Line::Refusal(2),
-        Content::Header(_) => Line::Refusal(7),
-        Content::Loan(l) => {
-            if ranges::loan(l) {
-                Line::Loan(l)
-            } else {
-                Line::Refusal(3)
-            }
-        }
-        Content::Policy(p) => {
-            if ranges::policy(p) {
-                Line::Policy(p)
-            } else {
-                Line::Refusal(3)
-            }
-        }
-        Content::Derivative(d) => {
-            if ranges::derivative(d) {
-                Line::Derivative(d)
-            } else {
-                Line::Refusal(3)
-            }
-        }
-        Content::Asset(a) => {
-            if ranges::asset(a) {
-                Line::Asset(a)
-            } else {
-                Line::Refusal(3)
-            }
-        }
-        Content::Amount(a) => {
-            if ranges::amount(a) {
-                Line::Amount(a)
-            } else {
-                Line::Refusal(3)
-            }
-        }
-    }
-}
-
-// A line after the header.
-pub fn read_line(line: &[u8]) -> Line
-    ensures { λ r. ⌜ r ≡ lineOf (now (line .entry)) ⌝ }
-{
-    if LONGEST < line.len() {
-        return Line::Refusal(1);
-    }
-    line_for(forms::content(line))
-}
-
-fn header_for(c: Content) -> HeaderLine
-    ensures { λ r. ⌜ r ≡ headerFor c ⌝ }
-{
-    match c {
-        Content::NoForm => HeaderLine::Refusal(2),
-        Content::Header(h) => {
-            if !ranges::header(h) {
-                return HeaderLine::Refusal(3);
-            }
-            if h.loans < h.unscored {
-                return HeaderLine::Refusal(4);
-            }
-            HeaderLine::Header(h)
-        }
-        Content::Loan(_) => HeaderLine::Refusal(7),
-        Content::Policy(_) => HeaderLine::Refusal(7),
-        Content::Derivative(_) => HeaderLine::Refusal(7),
-        Content::Asset(_) => HeaderLine::Refusal(7),
-        Content::Amount(_) => HeaderLine::Refusal(7),
-    }
-}
-
-// The line that opens a book.
-pub fn read_header(line: &[u8]) -> HeaderLine
-    ensures { λ r. ⌜ r ≡ headerOf (now (line .entry)) ⌝ }
-{
-    if LONGEST < line.len() {
-        return HeaderLine::Refusal(1);
-    }
-    header_for(forms::content(line))
 }

@@ -274,8 +274,8 @@ fn expected(refusal: u64, values: Answer) -> Answer {
 }
 
 fn is_read(line: &[u8], c: Case) -> bool {
-    let fed = line_answer(line_forms::read_line(line));
-    let opened = header_answer(line_forms::read_header(line));
+    let fed = line_answer(line_reading::read_line(line));
+    let opened = header_answer(line_reading::read_header(line));
     let values = c.values;
     is_same(fed, expected(c.feeding, values)) & is_same(opened, expected(c.opening, values))
 }

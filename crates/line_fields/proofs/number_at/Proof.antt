@@ -1,0 +1,57 @@
+-- `number_at` meets its contract.
+use mathlib.Core.Path.{sym, _∙_, ap}
+use native.Mathlib.Omega.{arith}
+use lib.ListN.{length}
+use borrow.Author.Needs.{needs}
+use Rattle.line_forms.proofs.Bytes.{run-fits}
+use Rattle.line_forms.proofs.Positions.{number-found, number-missing}
+use Rattle.line_fields.proofs.number_at.Statement.{statement}
+use Rattle.line_fields.proofs.number_at.Tie as tie
+
+run-requires : tie.Need-run-requires
+run-requires c κs = search needs
+
+number-requires : tie.Need-number-requires
+number-requires c κs = search needs
+
+enum-known-value : tie.Need-enum-known-value
+enum-known-value c = search needs
+
+add-t8 : tie.Need-add-t8
+add-t8 c =
+    let a = c .before .before .before .before .before .before .args in
+    let e = c .before .before .before .before .run .ensures in
+    record { fits = omega (arith, ap length e, run-fits 48 57 (a .line .now) (a .at)) }
+
+enum-told : tie.Need-enum-told
+enum-told c = search needs
+
+add-t10 : tie.Need-add-t10
+add-t10 c = search needs
+
+returns : tie.Need-returns
+returns c =
+    let a = c .before .before .before .before .before .before .args in
+    let e = c .before .before .before .before .run .ensures in
+    let f = c .before .before .before .number .ensures in
+    rw e (number-found (a .line .now) (a .at) (c .before .value .given .0 .0) (rw (← e) (sym f ∙ c .before .value .given .1)))
+
+returns-2 : tie.Need-returns-2
+returns-2 c =
+    let a = c .before .before .before .before .before .args in
+    let e = c .before .before .before .run .ensures in
+    let f = c .before .before .number .ensures in
+    number-missing (a .line .now) (a .at) (rw (← e) (sym f ∙ c .enum-told .given .1))
+
+pub number-at-spec : {M : Type 1} → statement M
+number-at-spec =
+    tie.close
+    (tie.spec
+    run-requires
+    number-requires
+    enum-known-value
+    add-t8
+    enum-told
+    add-t10
+    returns
+    returns-2)

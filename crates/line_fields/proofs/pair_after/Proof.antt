@@ -1,0 +1,32 @@
+-- `pair_after` meets its contract.
+use mathlib.Core.Path.{_∙_}
+use borrow.Author.Needs.{needs}
+use Rattle.line_forms.specs.Parsing.{afterWord}
+use Rattle.line_forms.proofs.Bytes.{run-fits}
+use Rattle.line_fields.proofs.pair_after.Statement.{statement}
+use Rattle.line_fields.proofs.pair_after.Tie as tie
+
+skip-requires : tie.Need-skip-requires
+skip-requires c κs = search needs
+
+run-requires : tie.Need-run-requires
+run-requires c κs = search needs
+
+pair-place-requires : tie.Need-pair-place-requires
+pair-place-requires c κs = search needs
+
+word-found-requires : tie.Need-word-found-requires
+word-found-requires c κs =
+    rw (c .before .run .ensures) (run-fits 97 122 (c .before .before .before .before .before .before .before .args .line .now) (c .before .before .skip .result))
+
+returns : tie.Need-returns
+unfolding afterWord
+returns c =
+    let e = c .before .before .before .skip .ensures in
+    let f = c .before .before .run .ensures in
+    let g = c .before .pair-place .ensures in
+    (c .word-found .ensures .0 ∙ rw (g, f, e), c .word-found .ensures .1 ∙ rw (g, f, e))
+
+pub pair-after-spec : {M : Type 1} → statement M
+pair-after-spec =
+    tie.close (tie.spec skip-requires run-requires pair-place-requires word-found-requires returns)

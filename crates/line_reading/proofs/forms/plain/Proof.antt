@@ -1,0 +1,33 @@
+-- `forms::plain` meets its contract.
+use borrow.Author.Needs.{needs}
+use borrow.Author.Tests.{eq-eqb, ne-eqb}
+use Rattle.line_forms.specs.Readings.{plainHeld}
+use Rattle.line_reading.proofs.forms.plain.Statement.{statement}
+use Rattle.line_reading.proofs.forms.plain.Tie as tie
+
+number-after-requires : tie.Need-number-after-requires
+number-after-requires c κs = search needs
+
+slice-aggregate-skip : tie.Need-slice-aggregate-skip
+slice-aggregate-skip c = search needs
+
+skip-requires : tie.Need-skip-requires
+skip-requires c κs = search needs
+
+returns : tie.Need-returns
+unfolding plainHeld
+returns c =
+    let n1 = c .before .before .before .number-after in
+    rw
+    (← n1 .ensures .1, ← c .before .skip .ensures, eq-eqb _ _ (c .if1 .taken), ← n1 .ensures .0)
+
+returns-2 : tie.Need-returns-2
+unfolding plainHeld
+returns-2 c =
+    let n1 = c .before .before .before .number-after in
+    rw
+    (← n1 .ensures .1, ← c .before .skip .ensures, ne-eqb _ _ (c .if1 .left))
+
+pub plain-spec : {M : Type 1} → statement M
+plain-spec =
+    tie.close (tie.spec number-after-requires slice-aggregate-skip skip-requires returns returns-2)

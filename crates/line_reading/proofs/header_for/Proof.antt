@@ -1,0 +1,100 @@
+-- `header_for` meets its contract.
+use mathlib.Core.Path.{sym, _∙_}
+use borrow.Author.Needs.{needs}
+use borrow.Author.Tests.{not-true, not-false, lt-ltb, le-ltb}
+use Rattle.line_forms.specs.Readings.{headerFor}
+use Rattle.line_reading.proofs.header_for.Statement.{statement}
+use Rattle.line_reading.proofs.header_for.Tie as tie
+
+enum-told : tie.Need-enum-told
+enum-told c = search needs
+
+enum-known-c : tie.Need-enum-known-c
+enum-known-c c = search needs
+
+header-requires : tie.Need-header-requires
+header-requires c κs = search needs
+
+returns : tie.Need-returns
+unfolding headerFor
+returns c =
+    rw (c .before .before .before .c .given .1, sym (c .before .header .ensures) ∙ not-true _ (c .if1 .taken))
+
+returns-2 : tie.Need-returns-2
+unfolding headerFor
+returns-2 c =
+    rw
+    (c .before .before .before .before .before .c .given .1, sym (c .before .before .before .header .ensures) ∙ not-false _ (c .before .before .if1 .left), lt-ltb _ _ (c .if2 .taken))
+
+enum-told-2 : tie.Need-enum-told-2
+enum-told-2 c = search needs
+
+enum-told-3 : tie.Need-enum-told-3
+enum-told-3 c = search needs
+
+enum-told-4 : tie.Need-enum-told-4
+enum-told-4 c = search needs
+
+enum-told-5 : tie.Need-enum-told-5
+enum-told-5 c = search needs
+
+enum-told-6 : tie.Need-enum-told-6
+enum-told-6 c = search needs
+
+returns-3 : tie.Need-returns-3
+unfolding headerFor
+returns-3 c =
+    rw (c .enum-told .given .1)
+
+returns-4 : tie.Need-returns-4
+unfolding headerFor
+returns-4 c =
+    rw
+    (c .before .before .before .before .before .c .given .1, sym (c .before .before .before .header .ensures) ∙ not-false _ (c .before .before .if1 .left), le-ltb _ _ (c .if2 .left))
+
+returns-5 : tie.Need-returns-5
+unfolding headerFor
+returns-5 c =
+    rw (c .enum-told2 .given .1)
+
+returns-6 : tie.Need-returns-6
+unfolding headerFor
+returns-6 c =
+    rw (c .enum-told3 .given .1)
+
+returns-7 : tie.Need-returns-7
+unfolding headerFor
+returns-7 c =
+    rw (c .enum-told4 .given .1)
+
+returns-8 : tie.Need-returns-8
+unfolding headerFor
+returns-8 c =
+    rw (c .enum-told5 .given .1)
+
+returns-9 : tie.Need-returns-9
+unfolding headerFor
+returns-9 c =
+    rw (c .enum-told6 .given .1)
+
+pub header-for-spec : {M : Type 1} → statement M
+header-for-spec =
+    tie.close
+    (tie.spec
+    enum-told
+    enum-known-c
+    header-requires
+    returns
+    returns-2
+    enum-told-2
+    enum-told-3
+    enum-told-4
+    enum-told-5
+    enum-told-6
+    returns-3
+    returns-4
+    returns-5
+    returns-6
+    returns-7
+    returns-8
+    returns-9)

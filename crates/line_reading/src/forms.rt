@@ -1,0 +1,234 @@
+// A reader for each form, and which of them a line's name asks for.
+ghost use mathlib.Core.Path.{_≡_};
+ghost use Rattle.line_forms.specs.Readings.{classAt, kindAt, headerHeld, loanHeld, policyHeld, derivativeHeld, assetHeld, plainHeld, signedHeld, amountHeld, contentOf};
+use fixed_point::Signed;
+use line_forms::Amount;
+use line_forms::Asset;
+use line_forms::Class;
+use line_forms::Content;
+use line_forms::Derivative;
+use line_forms::Header;
+use line_forms::Item;
+use line_forms::Kind;
+use line_forms::Loan;
+use line_forms::Policy;
+use loan_charge::Score;
+
+pub fn header(line: &[u8]) -> Content
+    ensures { λ r. ⌜ r ≡ headerHeld (now (line .entry)) ⌝ }
+{
+    let loans = line_fields::number_after(line, 0, b"(book (loans ");
+    let unscored = line_fields::number_after(line, loans.next, b") (unscored ");
+    let scores = line_fields::pair_after(line, unscored.next, b") (scores ", b"fresh", b"aged");
+    let held = line_fields::number_after(line, scores.next, b") (held ");
+    if line_fields::skip(line, held.next, b"))") == line.len() {
+        return Content::Header(Header {
+            loans: loans.value,
+            unscored: unscored.value,
+            aged: scores.value == 1,
+            held: held.value,
+        });
+    }
+    Content::NoForm
+}
+
+pub fn loan(line: &[u8]) -> Content
+    ensures { λ r. ⌜ r ≡ loanHeld (now (line .entry)) ⌝ }
+{
+    let balance = line_fields::number_after(line, 0, b"(loan (bal ");
+    let value = line_fields::number_after(line, balance.next, b") (val ");
+    let amortization = line_fields::number_after(line, value.next, b") (amort ");
+    let term = line_fields::number_after(line, amortization.next, b") (term ");
+    let number = line_fields::number_after(line, term.next, b") (score ");
+    let age = line_fields::number_after(line, number.next, b" ");
+    let supplement = line_fields::number_after(line, age.next, b") (sup ");
+    if line_fields::skip(line, supplement.next, b"))") == line.len() {
+        return Content::Loan(Loan {
+            balance: balance.value,
+            value: value.value,
+            amortization: amortization.value,
+            term: term.value,
+            score: Score::Scored {
+                number: number.value,
+                age: age.value,
+            },
+            supplement: supplement.value,
+        });
+    }
+    let supplement = line_fields::number_after(line, term.next, b") (score none) (sup ");
+    if line_fields::skip(line, supplement.next, b"))") == line.len() {
+        return Content::Loan(Loan {
+            balance: balance.value,
+            value: value.value,
+            amortization: amortization.value,
+            term: term.value,
+            score: Score::Unscored,
+            supplement: supplement.value,
+        });
+    }
+    Content::NoForm
+}
+
+fn class_at(place: u64) -> Class
+    ensures { λ r. ⌜ r ≡ classAt place ⌝ }
+{
+    if place == 0 {
+        return Class::Home;
+    }
+    Class::Multi
+}
+
+pub fn policy(line: &[u8]) -> Content
+    ensures { λ r. ⌜ r ≡ policyHeld (now (line .entry)) ⌝ }
+{
+    let class = line_fields::pair_after(line, 0, b"(policy (class ", b"home", b"multi");
+    let premium = line_fields::number_after(line, class.next, b") (prem ");
+    let term = line_fields::number_after(line, premium.next, b") (term ");
+    let completed = line_fields::number_after(line, term.next, b") (done ");
+    if line_fields::skip(line, completed.next, b"))") == line.len() {
+        return Content::Policy(Policy {
+            class: class_at(class.value),
+            premium: premium.value,
+            term: term.value,
+            completed: completed.value,
+        });
+    }
+    Content::NoForm
+}
+
+fn kind_at(place: u64) -> Kind
+    ensures { λ r. ⌜ r ≡ kindAt place ⌝ }
+{
+    if place == 0 {
+        return Kind::Rate;
+    }
+    if place == 1 {
+        return Kind::Float;
+    }
+    if place == 2 {
+        return Kind::Fx;
+    }
+    if place == 3 {
+        return Kind::Equity;
+    }
+    if place == 4 {
+        return Kind::Metal;
+    }
+    Kind::Other
+}
+
+pub fn derivative(line: &[u8]) -> Content
+    ensures { λ r. ⌜ r ≡ derivativeHeld (now (line .entry)) ⌝ }
+{
+    let kind = line_fields::kind_after(line, 0, b"(deriv (kind ");
+    let cost = line_fields::signed_after(line, kind.next, b") (cost ");
+    let notional = line_fields::number_after(line, cost.next, b") (notional ");
+    let months = line_fields::number_after(line, notional.next, b") (months ");
+    let payments = line_fields::number_after(line, months.next, b") (pays ");
+    let factor = line_fields::number_after(line, payments.next, b") (factor ");
+    if line_fields::skip(line, factor.next, b"))") == line.len() {
+        let amount = cost.amount;
+        return Content::Derivative(Derivative {
+            kind: kind_at(kind.value),
+            cost: amount,
+            notional: notional.value,
+            months: months.value,
+            payments: payments.value,
+            factor: factor.value,
+        });
+    }
+    Content::NoForm
+}
+
+pub fn asset(line: &[u8]) -> Content
+    ensures { λ r. ⌜ r ≡ assetHeld (now (line .entry)) ⌝ }
+{
+    let amount = line_fields::number_after(line, 0, b"(asset (amount ");
+    let factor = line_fields::number_after(line, amount.next, b") (factor ");
+    if line_fields::skip(line, factor.next, b"))") == line.len() {
+        return Content::Asset(Asset {
+            amount: amount.value,
+            factor: factor.value,
+        });
+    }
+    Content::NoForm
+}
+
+// An amount without a sign after a text.
+fn plain(line: &[u8], item: Item, text: &[u8]) -> Content
+    ensures { λ r. ⌜ r ≡ plainHeld item (now (text .entry)) (now (line .entry)) ⌝ }
+{
+    let n = line_fields::number_after(line, 0, text);
+    if line_fields::skip(line, n.next, b")") == line.len() {
+        return Content::Amount(Amount {
+            item,
+            amount: Signed {
+                plus: n.value,
+                minus: 0,
+            },
+        });
+    }
+    Content::NoForm
+}
+
+// An amount with a sign after a text.
+fn signed(line: &[u8], item: Item, text: &[u8]) -> Content
+    ensures { λ r. ⌜ r ≡ signedHeld item (now (text .entry)) (now (line .entry)) ⌝ }
+{
+    let n = line_fields::signed_after(line, 0, text);
+    if line_fields::skip(line, n.next, b")") == line.len() {
+        let amount = n.amount;
+        return Content::Amount(Amount { item, amount });
+    }
+    Content::NoForm
+}
+
+fn amount(name: &[u8], line: &[u8]) -> Content
+    ensures { λ r. ⌜ r ≡ amountHeld (now (name .entry)) (now (line .entry)) ⌝ }
+{
+    if line_fields::same(name, b"claims") {
+        return plain(line, Item::Claims, b"(claims ");
+    }
+    if line_fields::same(name, b"lossc") {
+        return plain(line, Item::Lossc, b"(lossc ");
+    }
+    if line_fields::same(name, b"stated") {
+        return plain(line, Item::Stated, b"(stated ");
+    }
+    if line_fields::same(name, b"equity") {
+        return signed(line, Item::Equity, b"(equity ");
+    }
+    if line_fields::same(name, b"aoci") {
+        return signed(line, Item::Aoci, b"(aoci ");
+    }
+    if line_fields::same(name, b"b") {
+        return plain(line, Item::B, b"(b ");
+    }
+    if line_fields::same(name, b"c") {
+        return plain(line, Item::C, b"(c ");
+    }
+    Content::NoForm
+}
+
+// What a line holds, by the name after its opening bracket.
+pub fn content(line: &[u8]) -> Content
+    ensures { λ r. ⌜ r ≡ contentOf (now (line .entry)) ⌝ }
+{
+    let name = line_fields::run(line, 1, b'a', b'z');
+    if line_fields::same(name, b"loan") {
+        return loan(line);
+    }
+    if line_fields::same(name, b"policy") {
+        return policy(line);
+    }
+    if line_fields::same(name, b"deriv") {
+        return derivative(line);
+    }
+    if line_fields::same(name, b"asset") {
+        return asset(line);
+    }
+    if line_fields::same(name, b"book") {
+        return header(line);
+    }
+    amount(name, line)
+}

@@ -1,0 +1,98 @@
+// From the bytes of a line to what it holds, and to the refusals that need only the line (01, "A book, line by line").
+mod forms;
+
+ghost use mathlib.Core.Path.{_≡_};
+ghost use Rattle.line_forms.specs.Readings.{lineOf, lineFor, headerOf, headerFor};
+use line_forms::Content;
+use line_forms::HeaderLine;
+use line_forms::Line;
+use line_forms::ranges;
+
+// A longer line is refused as 1.
+const LONGEST: usize = 240;
+
+fn line_for(c: Content) -> Line
+    ensures { λ r. ⌜ r ≡ lineFor c ⌝ }
+{
+    match c {
+        Content::NoForm => Line::Refusal(2),
+        Content::Header(_) => Line::Refusal(7),
+        Content::Loan(l) => {
+            if ranges::loan(l) {
+                Line::Loan(l)
+            } else {
+                Line::Refusal(3)
+            }
+        }
+        Content::Policy(p) => {
+            if ranges::policy(p) {
+                Line::Policy(p)
+            } else {
+                Line::Refusal(3)
+            }
+        }
+        Content::Derivative(d) => {
+            if ranges::derivative(d) {
+                Line::Derivative(d)
+            } else {
+                Line::Refusal(3)
+            }
+        }
+        Content::Asset(a) => {
+            if ranges::asset(a) {
+                Line::Asset(a)
+            } else {
+                Line::Refusal(3)
+            }
+        }
+        Content::Amount(a) => {
+            if ranges::amount(a) {
+                Line::Amount(a)
+            } else {
+                Line::Refusal(3)
+            }
+        }
+    }
+}
+
+// A line after the header.
+pub fn read_line(line: &[u8]) -> Line
+    ensures { λ r. ⌜ r ≡ lineOf (now (line .entry)) ⌝ }
+{
+    if LONGEST < line.len() {
+        return Line::Refusal(1);
+    }
+    line_for(forms::content(line))
+}
+
+fn header_for(c: Content) -> HeaderLine
+    ensures { λ r. ⌜ r ≡ headerFor c ⌝ }
+{
+    match c {
+        Content::NoForm => HeaderLine::Refusal(2),
+        Content::Header(h) => {
+            if !ranges::header(h) {
+                return HeaderLine::Refusal(3);
+            }
+            if h.loans < h.unscored {
+                return HeaderLine::Refusal(4);
+            }
+            HeaderLine::Header(h)
+        }
+        Content::Loan(_) => HeaderLine::Refusal(7),
+        Content::Policy(_) => HeaderLine::Refusal(7),
+        Content::Derivative(_) => HeaderLine::Refusal(7),
+        Content::Asset(_) => HeaderLine::Refusal(7),
+        Content::Amount(_) => HeaderLine::Refusal(7),
+    }
+}
+
+// The line that opens a book.
+pub fn read_header(line: &[u8]) -> HeaderLine
+    ensures { λ r. ⌜ r ≡ headerOf (now (line .entry)) ⌝ }
+{
+    if LONGEST < line.len() {
+        return HeaderLine::Refusal(1);
+    }
+    header_for(forms::content(line))
+}
