@@ -1,6 +1,5 @@
 pub mod BoundedShares
 pub mod Bounds
-pub mod Closings
 pub mod Demand2
 pub mod Demand3
 pub mod ExactSums

@@ -1,5 +1,5 @@
 use denote.Ref.{now}
-use Rattle.book_model.proofs.Closings.{refused-6, refused-9, written}
+use Rattle.book.proofs.Closings.{refused-6, refused-9, written}
 use borrow.Author.Needs.{needs}
 use Rattle.book.proofs.close.Statement.{statement}
 use Rattle.book.proofs.close.Tie as tie
