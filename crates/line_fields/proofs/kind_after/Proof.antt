@@ -6,15 +6,6 @@ use Rattle.line_forms.proofs.Bytes.{run-fits}
 use Rattle.line_fields.proofs.kind_after.Statement.{statement}
 use Rattle.line_fields.proofs.kind_after.Tie as tie
 
-skip-requires : tie.Need-skip-requires
-skip-requires c κs = search needs
-
-run-requires : tie.Need-run-requires
-run-requires c κs = search needs
-
-kind-place-requires : tie.Need-kind-place-requires
-kind-place-requires c κs = search needs
-
 word-found-requires : tie.Need-word-found-requires
 word-found-requires c κs =
     rw (c .before .run .ensures) (run-fits 97 122 (c .before .before .before .before .before .args .line .now) (c .before .before .skip .result))
@@ -29,4 +20,4 @@ returns c =
 
 pub kind-after-spec : {M : Type 1} → statement M
 kind-after-spec =
-    tie.close (tie.spec skip-requires run-requires kind-place-requires word-found-requires returns)
+    tie.close (tie.spec (λ c κs. search needs) (λ c κs. search needs) (λ c κs. search needs) word-found-requires returns)

@@ -5,22 +5,10 @@ use Rattle.line_forms.specs.Parsing.{placeOf}
 use Rattle.line_fields.proofs.kind_place.Statement.{statement}
 use Rattle.line_fields.proofs.kind_place.Tie as tie
 
-slice-aggregate-same : tie.Need-slice-aggregate-same
-slice-aggregate-same c = search needs
-
-same-requires : tie.Need-same-requires
-same-requires c κs = search needs
-
 returns : tie.Need-returns
 unfolding placeOf
 returns c =
     rw (sym (c .before .same .ensures) ∙ c .if1 .taken)
-
-slice-aggregate-same-2 : tie.Need-slice-aggregate-same-2
-slice-aggregate-same-2 c = search needs
-
-same-requires-2 : tie.Need-same-requires-2
-same-requires-2 c κs = search needs
 
 returns-2 : tie.Need-returns-2
 unfolding placeOf
@@ -30,12 +18,6 @@ returns-2 c =
       sym (c .before .same2 .ensures) ∙ c .if2 .taken,
     )
 
-slice-aggregate-same-3 : tie.Need-slice-aggregate-same-3
-slice-aggregate-same-3 c = search needs
-
-same-requires-3 : tie.Need-same-requires-3
-same-requires-3 c κs = search needs
-
 returns-3 : tie.Need-returns-3
 unfolding placeOf
 returns-3 c =
@@ -44,12 +26,6 @@ returns-3 c =
       sym (c .before .before .before .before .same2 .ensures) ∙ c .before .before .before .if2 .left,
       sym (c .before .same3 .ensures) ∙ c .if3 .taken,
     )
-
-slice-aggregate-same-4 : tie.Need-slice-aggregate-same-4
-slice-aggregate-same-4 c = search needs
-
-same-requires-4 : tie.Need-same-requires-4
-same-requires-4 c κs = search needs
 
 returns-4 : tie.Need-returns-4
 unfolding placeOf
@@ -61,12 +37,6 @@ returns-4 c =
       sym (c .before .same4 .ensures) ∙ c .if4 .taken,
     )
 
-slice-aggregate-same-5 : tie.Need-slice-aggregate-same-5
-slice-aggregate-same-5 c = search needs
-
-same-requires-5 : tie.Need-same-requires-5
-same-requires-5 c κs = search needs
-
 returns-5 : tie.Need-returns-5
 unfolding placeOf
 returns-5 c =
@@ -77,12 +47,6 @@ returns-5 c =
       sym (c .before .before .before .before .same4 .ensures) ∙ c .before .before .before .if4 .left,
       sym (c .before .same5 .ensures) ∙ c .if5 .taken,
     )
-
-slice-aggregate-same-6 : tie.Need-slice-aggregate-same-6
-slice-aggregate-same-6 c = search needs
-
-same-requires-6 : tie.Need-same-requires-6
-same-requires-6 c κs = search needs
 
 returns-6 : tie.Need-returns-6
 unfolding placeOf
@@ -112,22 +76,22 @@ pub kind-place-spec : {M : Type 1} → statement M
 kind-place-spec =
     tie.close
     (tie.spec
-    slice-aggregate-same
-    same-requires
+    (λ c. search needs)
+    (λ c κs. search needs)
     returns
-    slice-aggregate-same-2
-    same-requires-2
+    (λ c. search needs)
+    (λ c κs. search needs)
     returns-2
-    slice-aggregate-same-3
-    same-requires-3
+    (λ c. search needs)
+    (λ c κs. search needs)
     returns-3
-    slice-aggregate-same-4
-    same-requires-4
+    (λ c. search needs)
+    (λ c κs. search needs)
     returns-4
-    slice-aggregate-same-5
-    same-requires-5
+    (λ c. search needs)
+    (λ c κs. search needs)
     returns-5
-    slice-aggregate-same-6
-    same-requires-6
+    (λ c. search needs)
+    (λ c κs. search needs)
     returns-6
     returns-7)

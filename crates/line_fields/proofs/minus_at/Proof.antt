@@ -5,9 +5,6 @@ use lib.ListN.{List·getD-eq-default}
 use Rattle.line_fields.proofs.minus_at.Statement.{statement}
 use Rattle.line_fields.proofs.minus_at.Tie as tie
 
-shared-slice-read-result : tie.Need-shared-slice-read-result
-shared-slice-read-result c = search needs
-
 returns : tie.Need-returns
 returns c =
     refl
@@ -17,4 +14,4 @@ returns-2 c =
     rw (List·getD-eq-default (c .before .args .line .now) 0 (c .if1 .left))
 
 pub minus-at-spec : {M : Type 1} → statement M
-minus-at-spec = tie.close (tie.spec shared-slice-read-result returns returns-2)
+minus-at-spec = tie.close (tie.spec (λ c. search needs) returns returns-2)

@@ -5,12 +5,6 @@ use Rattle.line_forms.specs.Parsing.{afterNegative}
 use Rattle.line_fields.proofs.negative_at.Statement.{statement}
 use Rattle.line_fields.proofs.negative_at.Tie as tie
 
-number-at-requires : tie.Need-number-at-requires
-number-at-requires c κs = search needs
-
-add-t7 : tie.Need-add-t7
-add-t7 c = search needs
-
 returns : tie.Need-returns
 unfolding afterNegative
 returns c =
@@ -24,4 +18,4 @@ returns-2 c =
     (rw (e .0), rw (← e .0, ne-eqb (c .before .before .number-at .result .value) 0 (c .if1 .left), ← e .1))
 
 pub negative-at-spec : {M : Type 1} → statement M
-negative-at-spec = tie.close (tie.spec number-at-requires add-t7 returns returns-2)
+negative-at-spec = tie.close (tie.spec (λ c κs. search needs) (λ c. search needs) returns returns-2)

@@ -8,26 +8,11 @@ use Rattle.line_forms.proofs.Positions.{number-found, number-missing}
 use Rattle.line_fields.proofs.number_at.Statement.{statement}
 use Rattle.line_fields.proofs.number_at.Tie as tie
 
-run-requires : tie.Need-run-requires
-run-requires c κs = search needs
-
-number-requires : tie.Need-number-requires
-number-requires c κs = search needs
-
-enum-known-value : tie.Need-enum-known-value
-enum-known-value c = search needs
-
 add-t8 : tie.Need-add-t8
 add-t8 c =
     let a = c .before .before .before .before .before .before .args in
     let e = c .before .before .before .before .run .ensures in
     record { fits = omega (arith, ap length e, run-fits 48 57 (a .line .now) (a .at)) }
-
-enum-told : tie.Need-enum-told
-enum-told c = search needs
-
-add-t10 : tie.Need-add-t10
-add-t10 c = search needs
 
 returns : tie.Need-returns
 returns c =
@@ -47,11 +32,11 @@ pub number-at-spec : {M : Type 1} → statement M
 number-at-spec =
     tie.close
     (tie.spec
-    run-requires
-    number-requires
-    enum-known-value
+    (λ c κs. search needs)
+    (λ c κs. search needs)
+    (λ c. search needs)
     add-t8
-    enum-told
-    add-t10
+    (λ c. search needs)
+    (λ c. search needs)
     returns
     returns-2)

@@ -5,16 +5,10 @@ use Rattle.line_forms.specs.Parsing.{placeOf}
 use Rattle.line_fields.proofs.pair_place.Statement.{statement}
 use Rattle.line_fields.proofs.pair_place.Tie as tie
 
-same-requires : tie.Need-same-requires
-same-requires c κs = search needs
-
 returns : tie.Need-returns
 unfolding placeOf
 returns c =
     rw (sym (c .before .same .ensures) ∙ c .if1 .taken)
-
-same-requires-2 : tie.Need-same-requires-2
-same-requires-2 c κs = search needs
 
 returns-2 : tie.Need-returns-2
 unfolding placeOf
@@ -33,4 +27,4 @@ returns-3 c =
     )
 
 pub pair-place-spec : {M : Type 1} → statement M
-pair-place-spec = tie.close (tie.spec same-requires returns same-requires-2 returns-2 returns-3)
+pair-place-spec = tie.close (tie.spec (λ c κs. search needs) returns (λ c κs. search needs) returns-2 returns-3)

@@ -9,9 +9,6 @@ use Rattle.line_forms.specs.Parsing.{signedAt, afterSigned}
 use Rattle.line_fields.proofs.signed_at.Statement.{statement}
 use Rattle.line_fields.proofs.signed_at.Tie as tie
 
-minus-at-requires : tie.Need-minus-at-requires
-minus-at-requires c κs = search needs
-
 add-negative-at : tie.Need-add-negative-at
 add-negative-at c =
     let a = c .before .before .before .args in
@@ -19,18 +16,12 @@ add-negative-at c =
     minus-inside (a .line .now) (a .at) (sym (c .before .minus-at .ensures) ∙ c .if1 .taken) in
     record { fits = omega arith }
 
-negative-at-requires : tie.Need-negative-at-requires
-negative-at-requires c κs = search needs
-
 returns : tie.Need-returns
 unfolding signedAt afterSigned
 returns c =
     let e = sym (c .before .before .minus-at .ensures) ∙ c .before .if1 .taken in
     let f = c .negative-at .ensures in
     (rw e (f .0), rw e (f .1))
-
-number-at-requires : tie.Need-number-at-requires
-number-at-requires c κs = search needs
 
 returns-2 : tie.Need-returns-2
 unfolding signedAt afterSigned
@@ -43,9 +34,9 @@ pub signed-at-spec : {M : Type 1} → statement M
 signed-at-spec =
     tie.close
     (tie.spec
-    minus-at-requires
+    (λ c κs. search needs)
     add-negative-at
-    negative-at-requires
+    (λ c κs. search needs)
     returns
-    number-at-requires
+    (λ c κs. search needs)
     returns-2)

@@ -6,15 +6,6 @@ use Rattle.line_forms.specs.Readings.{headerFor}
 use Rattle.line_reading.proofs.header_for.Statement.{statement}
 use Rattle.line_reading.proofs.header_for.Tie as tie
 
-enum-told : tie.Need-enum-told
-enum-told c = search needs
-
-enum-known-c : tie.Need-enum-known-c
-enum-known-c c = search needs
-
-header-requires : tie.Need-header-requires
-header-requires c κs = search needs
-
 returns : tie.Need-returns
 unfolding headerFor
 returns c =
@@ -25,21 +16,6 @@ unfolding headerFor
 returns-2 c =
     rw
     (c .before .before .before .before .before .c .given .1, sym (c .before .before .before .header .ensures) ∙ not-false _ (c .before .before .if1 .left), lt-ltb _ _ (c .if2 .taken))
-
-enum-told-2 : tie.Need-enum-told-2
-enum-told-2 c = search needs
-
-enum-told-3 : tie.Need-enum-told-3
-enum-told-3 c = search needs
-
-enum-told-4 : tie.Need-enum-told-4
-enum-told-4 c = search needs
-
-enum-told-5 : tie.Need-enum-told-5
-enum-told-5 c = search needs
-
-enum-told-6 : tie.Need-enum-told-6
-enum-told-6 c = search needs
 
 returns-3 : tie.Need-returns-3
 unfolding headerFor
@@ -81,16 +57,16 @@ pub header-for-spec : {M : Type 1} → statement M
 header-for-spec =
     tie.close
     (tie.spec
-    enum-told
-    enum-known-c
-    header-requires
+    (λ c. search needs)
+    (λ c. search needs)
+    (λ c κs. search needs)
     returns
     returns-2
-    enum-told-2
-    enum-told-3
-    enum-told-4
-    enum-told-5
-    enum-told-6
+    (λ c. search needs)
+    (λ c. search needs)
+    (λ c. search needs)
+    (λ c. search needs)
+    (λ c. search needs)
     returns-3
     returns-4
     returns-5

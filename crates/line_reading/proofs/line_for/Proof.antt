@@ -5,42 +5,6 @@ use Rattle.line_forms.specs.Readings.{lineFor}
 use Rattle.line_reading.proofs.line_for.Statement.{statement}
 use Rattle.line_reading.proofs.line_for.Tie as tie
 
-enum-told : tie.Need-enum-told
-enum-told c = search needs
-
-enum-told-2 : tie.Need-enum-told-2
-enum-told-2 c = search needs
-
-enum-known-c : tie.Need-enum-known-c
-enum-known-c c = search needs
-
-loan-requires : tie.Need-loan-requires
-loan-requires c κs = search needs
-
-enum-known-c-2 : tie.Need-enum-known-c-2
-enum-known-c-2 c = search needs
-
-policy-requires : tie.Need-policy-requires
-policy-requires c κs = search needs
-
-enum-known-c-3 : tie.Need-enum-known-c-3
-enum-known-c-3 c = search needs
-
-derivative-requires : tie.Need-derivative-requires
-derivative-requires c κs = search needs
-
-enum-known-c-4 : tie.Need-enum-known-c-4
-enum-known-c-4 c = search needs
-
-asset-requires : tie.Need-asset-requires
-asset-requires c κs = search needs
-
-enum-known-c-5 : tie.Need-enum-known-c-5
-enum-known-c-5 c = search needs
-
-amount-requires : tie.Need-amount-requires
-amount-requires c κs = search needs
-
 returns : tie.Need-returns
 unfolding lineFor
 returns c =
@@ -105,18 +69,18 @@ pub line-for-spec : {M : Type 1} → statement M
 line-for-spec =
     tie.close
     (tie.spec
-    enum-told
-    enum-told-2
-    enum-known-c
-    loan-requires
-    enum-known-c-2
-    policy-requires
-    enum-known-c-3
-    derivative-requires
-    enum-known-c-4
-    asset-requires
-    enum-known-c-5
-    amount-requires
+    (λ c. search needs)
+    (λ c. search needs)
+    (λ c. search needs)
+    (λ c κs. search needs)
+    (λ c. search needs)
+    (λ c κs. search needs)
+    (λ c. search needs)
+    (λ c κs. search needs)
+    (λ c. search needs)
+    (λ c κs. search needs)
+    (λ c. search needs)
+    (λ c κs. search needs)
     returns
     returns-2
     returns-3

@@ -10,16 +10,10 @@ unfolding headerOf
 returns c =
     rw (lt-ltb 240 _ (c .if1 .taken))
 
-content-requires : tie.Need-content-requires
-content-requires c κs = search needs
-
-header-for-requires : tie.Need-header-for-requires
-header-for-requires c κs = search needs
-
 returns-2 : tie.Need-returns-2
 unfolding headerOf
 returns-2 c =
     rw (le-ltb 240 _ (c .before .before .if1 .left), ← c .before .content .ensures) (c .header-for .ensures)
 
 pub read-header-spec : {M : Type 1} → statement M
-read-header-spec = tie.close (tie.spec returns content-requires header-for-requires returns-2)
+read-header-spec = tie.close (tie.spec returns (λ c κs. search needs) (λ c κs. search needs) returns-2)

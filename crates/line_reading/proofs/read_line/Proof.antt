@@ -10,16 +10,10 @@ unfolding lineOf
 returns c =
     rw (lt-ltb 240 _ (c .if1 .taken))
 
-content-requires : tie.Need-content-requires
-content-requires c κs = search needs
-
-line-for-requires : tie.Need-line-for-requires
-line-for-requires c κs = search needs
-
 returns-2 : tie.Need-returns-2
 unfolding lineOf
 returns-2 c =
     rw (le-ltb 240 _ (c .before .before .if1 .left), ← c .before .content .ensures) (c .line-for .ensures)
 
 pub read-line-spec : {M : Type 1} → statement M
-read-line-spec = tie.close (tie.spec returns content-requires line-for-requires returns-2)
+read-line-spec = tie.close (tie.spec returns (λ c κs. search needs) (λ c κs. search needs) returns-2)

@@ -4,16 +4,10 @@ use Rattle.line_forms.specs.Contents.{assetInRange}
 use Rattle.line_forms.proofs.ranges.asset.Statement.{statement}
 use Rattle.line_forms.proofs.ranges.asset.Tie as tie
 
-between-requires : tie.Need-between-requires
-between-requires c κs = search needs
-
-between-requires-2 : tie.Need-between-requires-2
-between-requires-2 c κs = search needs
-
 returns : tie.Need-returns
 unfolding assetInRange
 returns c =
     rw (c .before .between .ensures, c .between2 .ensures)
 
 pub asset-spec : {M : Type 1} → statement M
-asset-spec = tie.close (tie.spec between-requires between-requires-2 returns)
+asset-spec = tie.close (tie.spec (λ c κs. search needs) (λ c κs. search needs) returns)

@@ -4,21 +4,6 @@ use Rattle.line_forms.specs.Contents.{derivativeInRange}
 use Rattle.line_forms.proofs.ranges.derivative.Statement.{statement}
 use Rattle.line_forms.proofs.ranges.derivative.Tie as tie
 
-money-requires : tie.Need-money-requires
-money-requires c κs = search needs
-
-between-requires : tie.Need-between-requires
-between-requires c κs = search needs
-
-between-requires-2 : tie.Need-between-requires-2
-between-requires-2 c κs = search needs
-
-between-requires-3 : tie.Need-between-requires-3
-between-requires-3 c κs = search needs
-
-between-requires-4 : tie.Need-between-requires-4
-between-requires-4 c κs = search needs
-
 returns : tie.Need-returns
 unfolding derivativeInRange
 returns c =
@@ -28,9 +13,9 @@ pub derivative-spec : {M : Type 1} → statement M
 derivative-spec =
     tie.close
     (tie.spec
-    money-requires
-    between-requires
-    between-requires-2
-    between-requires-3
-    between-requires-4
+    (λ c κs. search needs)
+    (λ c κs. search needs)
+    (λ c κs. search needs)
+    (λ c κs. search needs)
+    (λ c κs. search needs)
     returns)

@@ -4,16 +4,10 @@ use Rattle.line_forms.specs.Contents.{headerInRange}
 use Rattle.line_forms.proofs.ranges.header.Statement.{statement}
 use Rattle.line_forms.proofs.ranges.header.Tie as tie
 
-between-requires : tie.Need-between-requires
-between-requires c κs = search needs
-
-between-requires-2 : tie.Need-between-requires-2
-between-requires-2 c κs = search needs
-
 returns : tie.Need-returns
 unfolding headerInRange
 returns c =
     rw (c .before .between .ensures, c .between2 .ensures)
 
 pub header-spec : {M : Type 1} → statement M
-header-spec = tie.close (tie.spec between-requires between-requires-2 returns)
+header-spec = tie.close (tie.spec (λ c κs. search needs) (λ c κs. search needs) returns)

@@ -4,19 +4,10 @@ use Rattle.line_forms.specs.Contents.{policyInRange}
 use Rattle.line_forms.proofs.ranges.policy.Statement.{statement}
 use Rattle.line_forms.proofs.ranges.policy.Tie as tie
 
-between-requires : tie.Need-between-requires
-between-requires c κs = search needs
-
-between-requires-2 : tie.Need-between-requires-2
-between-requires-2 c κs = search needs
-
-between-requires-3 : tie.Need-between-requires-3
-between-requires-3 c κs = search needs
-
 returns : tie.Need-returns
 unfolding policyInRange
 returns c =
     rw (c .before .before .between .ensures, c .before .between2 .ensures, c .between3 .ensures)
 
 pub policy-spec : {M : Type 1} → statement M
-policy-spec = tie.close (tie.spec between-requires between-requires-2 between-requires-3 returns)
+policy-spec = tie.close (tie.spec (λ c κs. search needs) (λ c κs. search needs) (λ c κs. search needs) returns)

@@ -4,18 +4,6 @@ use Rattle.line_forms.specs.Contents.{scoreInRange}
 use Rattle.line_forms.proofs.ranges.score.Statement.{statement}
 use Rattle.line_forms.proofs.ranges.score.Tie as tie
 
-enum-known-s : tie.Need-enum-known-s
-enum-known-s c = search needs
-
-between-requires : tie.Need-between-requires
-between-requires c κs = search needs
-
-between-requires-2 : tie.Need-between-requires-2
-between-requires-2 c κs = search needs
-
-enum-told : tie.Need-enum-told
-enum-told c = search needs
-
 returns : tie.Need-returns
 unfolding scoreInRange
 returns c =
@@ -29,4 +17,4 @@ returns-2 c =
 pub score-spec : {M : Type 1} → statement M
 score-spec =
     tie.close
-    (tie.spec enum-known-s between-requires between-requires-2 enum-told returns returns-2)
+    (tie.spec (λ c. search needs) (λ c κs. search needs) (λ c κs. search needs) (λ c. search needs) returns returns-2)

@@ -5,24 +5,6 @@ use Rattle.line_forms.specs.Readings.{assetHeld}
 use Rattle.line_reading.proofs.forms.asset.Statement.{statement}
 use Rattle.line_reading.proofs.forms.asset.Tie as tie
 
-slice-aggregate-number-after : tie.Need-slice-aggregate-number-after
-slice-aggregate-number-after c = search needs
-
-number-after-requires : tie.Need-number-after-requires
-number-after-requires c κs = search needs
-
-slice-aggregate-number-after-2 : tie.Need-slice-aggregate-number-after-2
-slice-aggregate-number-after-2 c = search needs
-
-number-after-requires-2 : tie.Need-number-after-requires-2
-number-after-requires-2 c κs = search needs
-
-slice-aggregate-skip : tie.Need-slice-aggregate-skip
-slice-aggregate-skip c = search needs
-
-skip-requires : tie.Need-skip-requires
-skip-requires c κs = search needs
-
 returns : tie.Need-returns
 unfolding assetHeld
 returns c =
@@ -43,11 +25,11 @@ pub asset-spec : {M : Type 1} → statement M
 asset-spec =
     tie.close
     (tie.spec
-    slice-aggregate-number-after
-    number-after-requires
-    slice-aggregate-number-after-2
-    number-after-requires-2
-    slice-aggregate-skip
-    skip-requires
+    (λ c. search needs)
+    (λ c κs. search needs)
+    (λ c. search needs)
+    (λ c κs. search needs)
+    (λ c. search needs)
+    (λ c κs. search needs)
     returns
     returns-2)

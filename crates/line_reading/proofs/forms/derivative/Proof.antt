@@ -5,51 +5,6 @@ use Rattle.line_forms.specs.Readings.{derivativeHeld}
 use Rattle.line_reading.proofs.forms.derivative.Statement.{statement}
 use Rattle.line_reading.proofs.forms.derivative.Tie as tie
 
-slice-aggregate-kind-after : tie.Need-slice-aggregate-kind-after
-slice-aggregate-kind-after c = search needs
-
-kind-after-requires : tie.Need-kind-after-requires
-kind-after-requires c κs = search needs
-
-slice-aggregate-signed-after : tie.Need-slice-aggregate-signed-after
-slice-aggregate-signed-after c = search needs
-
-signed-after-requires : tie.Need-signed-after-requires
-signed-after-requires c κs = search needs
-
-slice-aggregate-number-after : tie.Need-slice-aggregate-number-after
-slice-aggregate-number-after c = search needs
-
-number-after-requires : tie.Need-number-after-requires
-number-after-requires c κs = search needs
-
-slice-aggregate-number-after-2 : tie.Need-slice-aggregate-number-after-2
-slice-aggregate-number-after-2 c = search needs
-
-number-after-requires-2 : tie.Need-number-after-requires-2
-number-after-requires-2 c κs = search needs
-
-slice-aggregate-number-after-3 : tie.Need-slice-aggregate-number-after-3
-slice-aggregate-number-after-3 c = search needs
-
-number-after-requires-3 : tie.Need-number-after-requires-3
-number-after-requires-3 c κs = search needs
-
-slice-aggregate-number-after-4 : tie.Need-slice-aggregate-number-after-4
-slice-aggregate-number-after-4 c = search needs
-
-number-after-requires-4 : tie.Need-number-after-requires-4
-number-after-requires-4 c κs = search needs
-
-slice-aggregate-skip : tie.Need-slice-aggregate-skip
-slice-aggregate-skip c = search needs
-
-skip-requires : tie.Need-skip-requires
-skip-requires c κs = search needs
-
-kind-at-requires : tie.Need-kind-at-requires
-kind-at-requires c κs = search needs
-
 returns : tie.Need-returns
 unfolding derivativeHeld
 returns c =
@@ -78,20 +33,20 @@ pub derivative-spec : {M : Type 1} → statement M
 derivative-spec =
     tie.close
     (tie.spec
-    slice-aggregate-kind-after
-    kind-after-requires
-    slice-aggregate-signed-after
-    signed-after-requires
-    slice-aggregate-number-after
-    number-after-requires
-    slice-aggregate-number-after-2
-    number-after-requires-2
-    slice-aggregate-number-after-3
-    number-after-requires-3
-    slice-aggregate-number-after-4
-    number-after-requires-4
-    slice-aggregate-skip
-    skip-requires
-    kind-at-requires
+    (λ c. search needs)
+    (λ c κs. search needs)
+    (λ c. search needs)
+    (λ c κs. search needs)
+    (λ c. search needs)
+    (λ c κs. search needs)
+    (λ c. search needs)
+    (λ c κs. search needs)
+    (λ c. search needs)
+    (λ c κs. search needs)
+    (λ c. search needs)
+    (λ c κs. search needs)
+    (λ c. search needs)
+    (λ c κs. search needs)
+    (λ c κs. search needs)
     returns
     returns-2)

@@ -5,54 +5,6 @@ use Rattle.line_forms.specs.Readings.{loanHeld}
 use Rattle.line_reading.proofs.forms.loan.Statement.{statement}
 use Rattle.line_reading.proofs.forms.loan.Tie as tie
 
-slice-aggregate-number-after : tie.Need-slice-aggregate-number-after
-slice-aggregate-number-after c = search needs
-
-number-after-requires : tie.Need-number-after-requires
-number-after-requires c κs = search needs
-
-slice-aggregate-number-after-2 : tie.Need-slice-aggregate-number-after-2
-slice-aggregate-number-after-2 c = search needs
-
-number-after-requires-2 : tie.Need-number-after-requires-2
-number-after-requires-2 c κs = search needs
-
-slice-aggregate-number-after-3 : tie.Need-slice-aggregate-number-after-3
-slice-aggregate-number-after-3 c = search needs
-
-number-after-requires-3 : tie.Need-number-after-requires-3
-number-after-requires-3 c κs = search needs
-
-slice-aggregate-number-after-4 : tie.Need-slice-aggregate-number-after-4
-slice-aggregate-number-after-4 c = search needs
-
-number-after-requires-4 : tie.Need-number-after-requires-4
-number-after-requires-4 c κs = search needs
-
-slice-aggregate-number-after-5 : tie.Need-slice-aggregate-number-after-5
-slice-aggregate-number-after-5 c = search needs
-
-number-after-requires-5 : tie.Need-number-after-requires-5
-number-after-requires-5 c κs = search needs
-
-slice-aggregate-number-after-6 : tie.Need-slice-aggregate-number-after-6
-slice-aggregate-number-after-6 c = search needs
-
-number-after-requires-6 : tie.Need-number-after-requires-6
-number-after-requires-6 c κs = search needs
-
-slice-aggregate-number-after-7 : tie.Need-slice-aggregate-number-after-7
-slice-aggregate-number-after-7 c = search needs
-
-number-after-requires-7 : tie.Need-number-after-requires-7
-number-after-requires-7 c κs = search needs
-
-slice-aggregate-skip : tie.Need-slice-aggregate-skip
-slice-aggregate-skip c = search needs
-
-skip-requires : tie.Need-skip-requires
-skip-requires c κs = search needs
-
 returns : tie.Need-returns
 unfolding loanHeld
 returns c =
@@ -81,18 +33,6 @@ returns c =
       ← n6 .ensures .0,
       ← n7 .ensures .0,
     )
-
-slice-aggregate-number-after-8 : tie.Need-slice-aggregate-number-after-8
-slice-aggregate-number-after-8 c = search needs
-
-number-after-requires-8 : tie.Need-number-after-requires-8
-number-after-requires-8 c κs = search needs
-
-slice-aggregate-skip-2 : tie.Need-slice-aggregate-skip-2
-slice-aggregate-skip-2 c = search needs
-
-skip-requires-2 : tie.Need-skip-requires-2
-skip-requires-2 c κs = search needs
 
 returns-2 : tie.Need-returns-2
 unfolding loanHeld
@@ -155,26 +95,26 @@ pub loan-spec : {M : Type 1} → statement M
 loan-spec =
     tie.close
     (tie.spec
-    slice-aggregate-number-after
-    number-after-requires
-    slice-aggregate-number-after-2
-    number-after-requires-2
-    slice-aggregate-number-after-3
-    number-after-requires-3
-    slice-aggregate-number-after-4
-    number-after-requires-4
-    slice-aggregate-number-after-5
-    number-after-requires-5
-    slice-aggregate-number-after-6
-    number-after-requires-6
-    slice-aggregate-number-after-7
-    number-after-requires-7
-    slice-aggregate-skip
-    skip-requires
+    (λ c. search needs)
+    (λ c κs. search needs)
+    (λ c. search needs)
+    (λ c κs. search needs)
+    (λ c. search needs)
+    (λ c κs. search needs)
+    (λ c. search needs)
+    (λ c κs. search needs)
+    (λ c. search needs)
+    (λ c κs. search needs)
+    (λ c. search needs)
+    (λ c κs. search needs)
+    (λ c. search needs)
+    (λ c κs. search needs)
+    (λ c. search needs)
+    (λ c κs. search needs)
     returns
-    slice-aggregate-number-after-8
-    number-after-requires-8
-    slice-aggregate-skip-2
-    skip-requires-2
+    (λ c. search needs)
+    (λ c κs. search needs)
+    (λ c. search needs)
+    (λ c κs. search needs)
     returns-2
     returns-3)

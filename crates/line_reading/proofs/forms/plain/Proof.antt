@@ -5,15 +5,6 @@ use Rattle.line_forms.specs.Readings.{plainHeld}
 use Rattle.line_reading.proofs.forms.plain.Statement.{statement}
 use Rattle.line_reading.proofs.forms.plain.Tie as tie
 
-number-after-requires : tie.Need-number-after-requires
-number-after-requires c κs = search needs
-
-slice-aggregate-skip : tie.Need-slice-aggregate-skip
-slice-aggregate-skip c = search needs
-
-skip-requires : tie.Need-skip-requires
-skip-requires c κs = search needs
-
 returns : tie.Need-returns
 unfolding plainHeld
 returns c =
@@ -30,4 +21,4 @@ returns-2 c =
 
 pub plain-spec : {M : Type 1} → statement M
 plain-spec =
-    tie.close (tie.spec number-after-requires slice-aggregate-skip skip-requires returns returns-2)
+    tie.close (tie.spec (λ c κs. search needs) (λ c. search needs) (λ c κs. search needs) returns returns-2)

@@ -5,45 +5,6 @@ use Rattle.line_forms.specs.Readings.{policyHeld}
 use Rattle.line_reading.proofs.forms.policy.Statement.{statement}
 use Rattle.line_reading.proofs.forms.policy.Tie as tie
 
-slice-aggregate-pair-after : tie.Need-slice-aggregate-pair-after
-slice-aggregate-pair-after c = search needs
-
-slice-aggregate-pair-after-2 : tie.Need-slice-aggregate-pair-after-2
-slice-aggregate-pair-after-2 c = search needs
-
-slice-aggregate-pair-after-3 : tie.Need-slice-aggregate-pair-after-3
-slice-aggregate-pair-after-3 c = search needs
-
-pair-after-requires : tie.Need-pair-after-requires
-pair-after-requires c κs = search needs
-
-slice-aggregate-number-after : tie.Need-slice-aggregate-number-after
-slice-aggregate-number-after c = search needs
-
-number-after-requires : tie.Need-number-after-requires
-number-after-requires c κs = search needs
-
-slice-aggregate-number-after-2 : tie.Need-slice-aggregate-number-after-2
-slice-aggregate-number-after-2 c = search needs
-
-number-after-requires-2 : tie.Need-number-after-requires-2
-number-after-requires-2 c κs = search needs
-
-slice-aggregate-number-after-3 : tie.Need-slice-aggregate-number-after-3
-slice-aggregate-number-after-3 c = search needs
-
-number-after-requires-3 : tie.Need-number-after-requires-3
-number-after-requires-3 c κs = search needs
-
-slice-aggregate-skip : tie.Need-slice-aggregate-skip
-slice-aggregate-skip c = search needs
-
-skip-requires : tie.Need-skip-requires
-skip-requires c κs = search needs
-
-class-at-requires : tie.Need-class-at-requires
-class-at-requires c κs = search needs
-
 returns : tie.Need-returns
 unfolding policyHeld
 returns c =
@@ -68,18 +29,18 @@ pub policy-spec : {M : Type 1} → statement M
 policy-spec =
     tie.close
     (tie.spec
-    slice-aggregate-pair-after
-    slice-aggregate-pair-after-2
-    slice-aggregate-pair-after-3
-    pair-after-requires
-    slice-aggregate-number-after
-    number-after-requires
-    slice-aggregate-number-after-2
-    number-after-requires-2
-    slice-aggregate-number-after-3
-    number-after-requires-3
-    slice-aggregate-skip
-    skip-requires
-    class-at-requires
+    (λ c. search needs)
+    (λ c. search needs)
+    (λ c. search needs)
+    (λ c κs. search needs)
+    (λ c. search needs)
+    (λ c κs. search needs)
+    (λ c. search needs)
+    (λ c κs. search needs)
+    (λ c. search needs)
+    (λ c κs. search needs)
+    (λ c. search needs)
+    (λ c κs. search needs)
+    (λ c κs. search needs)
     returns
     returns-2)

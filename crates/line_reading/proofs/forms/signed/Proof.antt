@@ -5,15 +5,6 @@ use Rattle.line_forms.specs.Readings.{signedHeld}
 use Rattle.line_reading.proofs.forms.signed.Statement.{statement}
 use Rattle.line_reading.proofs.forms.signed.Tie as tie
 
-signed-after-requires : tie.Need-signed-after-requires
-signed-after-requires c κs = search needs
-
-slice-aggregate-skip : tie.Need-slice-aggregate-skip
-slice-aggregate-skip c = search needs
-
-skip-requires : tie.Need-skip-requires
-skip-requires c κs = search needs
-
 returns : tie.Need-returns
 unfolding signedHeld
 returns c =
@@ -30,4 +21,4 @@ returns-2 c =
 
 pub signed-spec : {M : Type 1} → statement M
 signed-spec =
-    tie.close (tie.spec signed-after-requires slice-aggregate-skip skip-requires returns returns-2)
+    tie.close (tie.spec (λ c κs. search needs) (λ c. search needs) (λ c κs. search needs) returns returns-2)
