@@ -18,7 +18,7 @@ fn innermost_part(x: u64) -> u64
     requires { ⌜ x < 2 ^ 34 ⌝ }
     ensures { λ r. ⌜ r ≡ innermost x ⌝ }
 {
-    fixed_point::scaled_product(x, 1099511627776 - x / 4) / 3
+    fixed_point::small_product(x, 1099511627776 - x / 4) / 3
 }
 
 // x (1 - x/3 (1 - x/4)), rounded up.
@@ -26,7 +26,7 @@ fn middle_part(x: u64) -> u64
     requires { ⌜ x < 2 ^ 34 ⌝ }
     ensures { λ r. ⌜ r ≡ middle x ⌝ }
 {
-    x - fixed_point::scaled_product(x, innermost_part(x))
+    x - fixed_point::small_product(x, innermost_part(x))
 }
 
 // x (1 - x/2 (1 - x/3 (1 - x/4))), rounded down: 1 - exp(-x) for x below one 64th.
@@ -34,7 +34,7 @@ fn decrease_of(x: u64) -> u64
     requires { ⌜ x < 2 ^ 34 ⌝ }
     ensures { λ r. ⌜ r ≡ decrease x ⌝ }
 {
-    fixed_point::scaled_product(x, 2199023255552 - middle_part(x)) / 2
+    fixed_point::small_product(x, 2199023255552 - middle_part(x)) / 2
 }
 
 // t (1 - d), rounded up.
@@ -42,7 +42,7 @@ fn lower(t: u64, d: u64) -> u64
     requires { ⌜ (t ≤ 2 ^ 40) × (d ≤ 2 ^ 40) ⌝ }
     ensures { λ r. ⌜ r ≡ lowered t d ⌝ }
 {
-    t - fixed_point::scaled_product(t, d)
+    t - fixed_point::small_product(t, d)
 }
 
 // At or above exp(-y), in units of 2^-40; y in units of 2^-38.

@@ -1,6 +1,6 @@
 -- Laws of the product and of the long division, in the forms that callers use.
 -- Assumes nothing.
-use mathlib.Core.Path.{_≡_, ap₂}
+use mathlib.Core.Path.{_≡_, ap, ap₂}
 use Prim.Native.Nat.{ℕ, _+_, _*_, _/_, _^_, _≤_, _<_, zero-le}
 use native.Mathlib.Nat.{mul-le-mul, mul-le-mul-left, div-add-mod', mod-lt, div-lt-iff-lt-mul, lt-of-le-of-lt, mul-lt-mul-of-pos-right}
 use native.Mathlib.Omega.{arith}
@@ -14,6 +14,10 @@ bounded a b x y h k = mul-le-mul h k
 -- a · b / 2^40 from the products of the halves of a and b
 pub halves : (a1 a0 b1 b0 a b : ℕ) → a ≡ a1 * 1048576 + a0 → b ≡ b1 * 1048576 + b0 → a1 * b1 + (a1 * b0 + a0 * b1 + a0 * b0 / 1048576) / 1048576 ≡ a * b / 2 ^ 40
 halves a1 a0 b1 b0 a b p q = omega (arith, ap₂ _*_ p q)
+
+-- the same from the products of a and the halves of b
+pub half-products : (a b1 b0 b : ℕ) → b ≡ b1 * 1048576 + b0 → (a * b1 + a * b0 / 1048576) / 1048576 ≡ a * b / 2 ^ 40
+half-products a b1 b0 b q = omega (arith, ap (λ (x : ℕ). a * x) q)
 
 -- the product is the greatest number whose multiple by 2^40 is at most a · b
 pub product-low : (a b : ℕ) → scaledProduct a b * 2 ^ 40 ≤ a * b

@@ -15,6 +15,16 @@ pub fn scaled_product(a: u64, b: u64) -> u64
     a1 * b1 + (a1 * b0 + a0 * b1 + a0 * b0 / 1048576) / 1048576
 }
 
+// The same product of numbers up to 1 and up to 2: there is room for the first times each half of the second.
+pub fn small_product(a: u64, b: u64) -> u64
+    requires { ⌜ (a ≤ 2 ^ 40) × (b ≤ 2 ^ 41) ⌝ }
+    ensures { λ r. ⌜ r ≡ scaledProduct a b ⌝ }
+{
+    let b1 = b / 1048576;
+    let b0 = b % 1048576;
+    (a * b1 + a * b0 / 1048576) / 1048576
+}
+
 // A signed number: plus - minus.
 pub struct Signed {
     pub plus: u64,

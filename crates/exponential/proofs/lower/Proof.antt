@@ -6,8 +6,8 @@ use Rattle.exponential.proofs.Steps.{product-most}
 use Rattle.exponential.proofs.lower.Statement.{statement}
 use Rattle.exponential.proofs.lower.Tie as tie
 
-scaled-product-requires : tie.Need-scaled-product-requires
-scaled-product-requires c κs = search needs
+small-product-requires : tie.Need-small-product-requires
+small-product-requires c κs = search needs
 
 sub-result : tie.Need-sub-result
 sub-result c = omega (arith, product-most 1 (c .before .args .t) (c .before .args .d) (omega arith))
@@ -17,4 +17,4 @@ unfolding lowered
 returns c = omega arith
 
 pub lower-spec : {M : Type 1} → statement M
-lower-spec = tie.close (tie.spec scaled-product-requires sub-result returns)
+lower-spec = tie.close (tie.spec small-product-requires sub-result returns)

@@ -10,8 +10,8 @@ use Rattle.exponential.proofs.middle_part.Tie as tie
 innermost-part-requires : tie.Need-innermost-part-requires
 innermost-part-requires c κs = search needs
 
-scaled-product-requires : tie.Need-scaled-product-requires
-scaled-product-requires c κs = omega (arith, innermost-most (c .before .args .x))
+small-product-requires : tie.Need-small-product-requires
+small-product-requires c κs = omega (arith, innermost-most (c .before .args .x))
 
 sub-result : tie.Need-sub-result
 sub-result c =
@@ -20,7 +20,7 @@ sub-result c =
 
 returns : tie.Need-returns
 unfolding middle
-returns c = rw (c .scaled-product .ensures, c .before .innermost-part .ensures) refl
+returns c = rw (c .small-product .ensures, c .before .innermost-part .ensures) refl
 
 pub middle-part-spec : {M : Type 1} → statement M
-middle-part-spec = tie.close (tie.spec innermost-part-requires scaled-product-requires sub-result returns)
+middle-part-spec = tie.close (tie.spec innermost-part-requires small-product-requires sub-result returns)
