@@ -3,15 +3,9 @@ use borrow.Author.Needs.{needs}
 use Rattle.book.proofs.add_loan.Statement.{statement}
 use Rattle.book.proofs.add_loan.Tie as tie
 
-loan-beyond-requires : tie.Need-loan-beyond-requires
-loan-beyond-requires c κs = search needs
-
 returns : tie.Need-returns
 returns c =
     loan-refused (c .before .before .before .before .args .b) (c .before .before .before .before .args .l) (c .before .loan-beyond .ensures) (c .if1 .taken)
-
-loan-requires : tie.Need-loan-requires
-loan-requires c κs = search needs
 
 with-share-requires : tie.Need-with-share-requires
 with-share-requires c κs =
@@ -23,4 +17,4 @@ returns-2 c =
 
 pub add-loan-spec : {M : Type 1} → statement M
 add-loan-spec =
-    tie.close (tie.spec loan-beyond-requires returns loan-requires with-share-requires returns-2)
+    tie.close (tie.spec (λ c κs. search needs) returns (λ c κs. search needs) with-share-requires returns-2)

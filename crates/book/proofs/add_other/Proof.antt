@@ -7,11 +7,8 @@ use Rattle.book.proofs.add_other.Tie as tie
 returns : tie.Need-returns
 returns c = rw (le-leb 100000 (c .before .before .before .args .b .sums .other) (c .if1 .taken)) refl
 
-with-share-requires : tie.Need-with-share-requires
-with-share-requires c κs = search needs
-
 returns-2 : tie.Need-returns-2
 returns-2 c = rw (lt-leb 100000 (c .before .before .before .before .args .b .sums .other) (c .before .if1 .left)) (c .with-share .ensures)
 
 pub add-other-spec : {M : Type 1} → statement M
-add-other-spec = tie.close (tie.spec returns with-share-requires returns-2)
+add-other-spec = tie.close (tie.spec returns (λ c κs. search needs) returns-2)

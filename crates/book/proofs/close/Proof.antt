@@ -13,11 +13,5 @@ returns-2 c = refused-9 (c .before .before .before .before .before .before .befo
 returns-3 : tie.Need-returns-3
 returns-3 c = written _ _ (search) (search needs) (search)
 
-put-report-requires : tie.Need-put-report-requires
-put-report-requires c κs = search needs
-
-same-length : tie.Need-same-length
-same-length c = search needs
-
 pub close-spec : {M : Type 1} → statement M
-close-spec = tie.close (tie.spec returns returns-2 put-report-requires same-length returns-3)
+close-spec = tie.close (tie.spec returns returns-2 (λ c κs. search needs) (λ c. search needs) returns-3)

@@ -9,15 +9,9 @@ use borrow.Author.Needs.{needs}
 use Rattle.book.proofs.feed_line.Statement.{statement}
 use Rattle.book.proofs.feed_line.Tie as tie
 
-enum-known-line : tie.Need-enum-known-line
-enum-known-line c = search needs
-
 add-loan-requires : tie.Need-add-loan-requires
 add-loan-requires c κs =
     (c .before .before .before .pre .0, subst (λ (l : Line). Ranged l) (c .before .line .given .1) (c .before .before .before .pre .1), c .before .before .before .pre .2, c .before .before .before .pre .3)
-
-enum-known-line-2 : tie.Need-enum-known-line-2
-enum-known-line-2 c = search needs
 
 policy-requires : tie.Need-policy-requires
 policy-requires c κs = let r : PolicyRanges (c .before .line2 .given .0 .0) = subst (λ (l : Line). Ranged l) (c .before .line2 .given .1) (c .before .before .before .pre .1) in r .premium
@@ -27,9 +21,6 @@ unfolding share
 add-other-requires c κs =
     other-asked (c .before .before .before .before .args .b) (PolicyLine (c .before .before .line2 .given .0 .0)) tt (c .before .before .line2 .given .1) (c .policy .ensures) (c .before .before .before .before .pre .0) (c .before .before .before .before .pre .1)
 
-enum-known-line-3 : tie.Need-enum-known-line-3
-enum-known-line-3 c = search needs
-
 derivative-requires : tie.Need-derivative-requires
 derivative-requires c κs = subst (λ (l : Line). Ranged l) (c .before .line3 .given .1) (c .before .before .before .pre .1)
 
@@ -37,9 +28,6 @@ add-other-requires-2 : tie.Need-add-other-requires-2
 unfolding share
 add-other-requires-2 c κs =
     other-asked (c .before .before .before .before .args .b) (DerivativeLine (c .before .before .line3 .given .0 .0)) tt (c .before .before .line3 .given .1) (c .derivative .ensures) (c .before .before .before .before .pre .0) (c .before .before .before .before .pre .1)
-
-enum-known-line-4 : tie.Need-enum-known-line-4
-enum-known-line-4 c = search needs
 
 asset-requires : tie.Need-asset-requires
 asset-requires c κs = subst (λ (l : Line). Ranged l) (c .before .line4 .given .1) (c .before .before .before .pre .1)
@@ -49,9 +37,6 @@ unfolding share
 add-other-requires-3 c κs =
     other-asked (c .before .before .before .before .args .b) (AssetLine (c .before .before .line4 .given .0 .0)) tt (c .before .before .line4 .given .1) (c .asset .ensures) (c .before .before .before .before .pre .0) (c .before .before .before .before .pre .1)
 
-enum-known-line-5 : tie.Need-enum-known-line-5
-enum-known-line-5 c = search needs
-
 amount-requires : tie.Need-amount-requires
 amount-requires c κs = let r : AmountRanges (c .before .before .line5 .given .0 .0) = subst (λ (l : Line). Ranged l) (c .before .before .line5 .given .1) (c .before .before .before .before .pre .1) in r .plus
 
@@ -59,9 +44,6 @@ add-other-requires-4 : tie.Need-add-other-requires-4
 unfolding share
 add-other-requires-4 c κs =
     other-asked (c .before .before .before .before .before .args .b) (AmountLine (c .before .before .before .line5 .given .0 .0)) tt (c .before .before .before .line5 .given .1) (c .amount .ensures) (c .before .before .before .before .before .pre .0) (c .before .before .before .before .before .pre .1)
-
-enum-known-line-6 : tie.Need-enum-known-line-6
-enum-known-line-6 c = search needs
 
 returns : tie.Need-returns
 returns c =
@@ -94,21 +76,21 @@ pub feed-line-spec : {M : Type 1} → statement M
 feed-line-spec =
     tie.close
     (tie.spec
-    enum-known-line
+    (λ c. search needs)
     add-loan-requires
-    enum-known-line-2
+    (λ c. search needs)
     policy-requires
     add-other-requires
-    enum-known-line-3
+    (λ c. search needs)
     derivative-requires
     add-other-requires-2
-    enum-known-line-4
+    (λ c. search needs)
     asset-requires
     add-other-requires-3
-    enum-known-line-5
+    (λ c. search needs)
     amount-requires
     add-other-requires-4
-    enum-known-line-6
+    (λ c. search needs)
     returns
     returns-2
     returns-3

@@ -5,12 +5,6 @@ use borrow.Author.Needs.{needs}
 use Rattle.book.proofs.feed_with.Statement.{statement}
 use Rattle.book.proofs.feed_with.Tie as tie
 
-read-line-requires : tie.Need-read-line-requires
-read-line-requires c κs = search needs
-
-enum-known-read : tie.Need-enum-known-read
-enum-known-read c = search needs
-
 feed-line-requires : tie.Need-feed-line-requires
 feed-line-requires c κs =
     (c .before .before .before .pre .0, rw (c .before .read-line .ensures) (ranged (now (c .before .before .before .args .line))), c .before .before .before .pre .1, c .before .before .before .pre .2)
@@ -25,4 +19,4 @@ returns-2 c =
 
 pub feed-with-spec : {M : Type 1} → statement M
 feed-with-spec =
-    tie.close (tie.spec read-line-requires enum-known-read feed-line-requires returns returns-2)
+    tie.close (tie.spec (λ c κs. search needs) (λ c. search needs) feed-line-requires returns returns-2)

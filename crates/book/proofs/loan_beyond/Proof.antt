@@ -3,11 +3,8 @@ use borrow.Author.Needs.{needs}
 use Rattle.book.proofs.loan_beyond.Statement.{statement}
 use Rattle.book.proofs.loan_beyond.Tie as tie
 
-unscored-requires : tie.Need-unscored-requires
-unscored-requires c κs = search needs
-
 returns : tie.Need-returns
 returns c = rw (c .before .before .unscored .ensures) refl
 
 pub loan-beyond-spec : {M : Type 1} → statement M
-loan-beyond-spec = tie.close (tie.spec unscored-requires returns)
+loan-beyond-spec = tie.close (tie.spec (λ c κs. search needs) returns)

@@ -6,39 +6,6 @@ use Rattle.report.proofs.Onto.{nothing-written, written-then}
 use Rattle.book_report.proofs.put_head.Statement.{statement}
 use Rattle.book_report.proofs.put_head.Tie as tie
 
-slice-aggregate-add-unsigned : tie.Need-slice-aggregate-add-unsigned
-slice-aggregate-add-unsigned c = search needs
-
-add-unsigned-requires : tie.Need-add-unsigned-requires
-add-unsigned-requires c κs = search needs
-
-slice-aggregate-add-line : tie.Need-slice-aggregate-add-line
-slice-aggregate-add-line c = search needs
-
-add-line-requires : tie.Need-add-line-requires
-add-line-requires c κs = search needs
-
-slice-aggregate-add-line-2 : tie.Need-slice-aggregate-add-line-2
-slice-aggregate-add-line-2 c = search needs
-
-add-line-requires-2 : tie.Need-add-line-requires-2
-add-line-requires-2 c κs = search needs
-
-slice-aggregate-add-unsigned-2 : tie.Need-slice-aggregate-add-unsigned-2
-slice-aggregate-add-unsigned-2 c = search needs
-
-add-unsigned-requires-2 : tie.Need-add-unsigned-requires-2
-add-unsigned-requires-2 c κs = search needs
-
-slice-aggregate-add-unsigned-3 : tie.Need-slice-aggregate-add-unsigned-3
-slice-aggregate-add-unsigned-3 c = search needs
-
-add-unsigned-requires-3 : tie.Need-add-unsigned-requires-3
-add-unsigned-requires-3 c κs = search needs
-
-same-length : tie.Need-same-length
-same-length c = search needs
-
 returns : tie.Need-returns
 returns c =
     let one = c .before .before .before .before .before .before .before .before .before .before .before .before .before .before .before .before .before .before .before .before .before .before .add-unsigned .ensures .0 in
@@ -52,15 +19,15 @@ pub put-head-spec : {M : Type 1} → statement M
 put-head-spec =
     tie.close
     (tie.spec
-    slice-aggregate-add-unsigned
-    add-unsigned-requires
-    slice-aggregate-add-line
-    add-line-requires
-    slice-aggregate-add-line-2
-    add-line-requires-2
-    slice-aggregate-add-unsigned-2
-    add-unsigned-requires-2
-    slice-aggregate-add-unsigned-3
-    add-unsigned-requires-3
-    same-length
+    (λ c. search needs)
+    (λ c κs. search needs)
+    (λ c. search needs)
+    (λ c κs. search needs)
+    (λ c. search needs)
+    (λ c κs. search needs)
+    (λ c. search needs)
+    (λ c κs. search needs)
+    (λ c. search needs)
+    (λ c κs. search needs)
+    (λ c. search needs)
     returns)

@@ -5,26 +5,17 @@ use Rattle.report.proofs.Onto.{written-more}
 use Rattle.book_report.proofs.put_report.Statement.{statement}
 use Rattle.book_report.proofs.put_report.Tie as tie
 
-put-head-requires : tie.Need-put-head-requires
-put-head-requires c κs = search needs
-
 sub-put-tail : tie.Need-sub-put-tail
 sub-put-tail c = omega (arith, c .before .before .put-head .ensures .1)
 
 part-put-tail-start : tie.Need-part-put-tail-start
 part-put-tail-start c = omega (arith, c .before .before .put-head .ensures .1)
 
-part-put-tail-end : tie.Need-part-put-tail-end
-part-put-tail-end c = search needs
-
 put-tail-requires : tie.Need-put-tail-requires
 put-tail-requires c κs = omega (arith, c .before .before .before .put-head .ensures .1)
 
 add-result : tie.Need-add-result
 add-result c = omega (arith, c .before .before .before .before .before .before .put-head .ensures .1, c .before .before .put-tail .ensures .1)
-
-same-length : tie.Need-same-length
-same-length c = search needs
 
 returns : tie.Need-returns
 unfolding reportText
@@ -34,11 +25,11 @@ pub put-report-spec : {M : Type 1} → statement M
 put-report-spec =
     tie.close
     (tie.spec
-    put-head-requires
+    (λ c κs. search needs)
     sub-put-tail
     part-put-tail-start
-    part-put-tail-end
+    (λ c. search needs)
     put-tail-requires
     add-result
-    same-length
+    (λ c. search needs)
     returns)

@@ -12,41 +12,17 @@ Inv-loop count table sums₀ x₀ left₀ sums x left = (x < 2147483647) × (tab
 abbrev μ-loop : tie.MeasureT-loop
 μ-loop count table sums₀ x₀ left₀ sums x left = left
 
-loop-holds : tie.Need-loop-holds Inv-loop μ-loop
-loop-holds c = search needs
-
-charge-of-requires : tie.Need-charge-of-requires Inv-loop μ-loop
-charge-of-requires c κs = search needs
-
-add-charge-requires : tie.Need-add-charge-requires Inv-loop μ-loop
-add-charge-requires c κs = search needs
-
-next-requires : tie.Need-next-requires Inv-loop μ-loop
-next-requires c κs = search needs
-
-sub-left : tie.Need-sub-left Inv-loop μ-loop
-sub-left c = search needs
-
-loop-less : tie.Need-loop-less Inv-loop μ-loop
-loop-less c = search needs
-
-loop-again : tie.Need-loop-again Inv-loop μ-loop
-loop-again c = search needs
-
-returns : tie.Need-returns Inv-loop μ-loop
-returns c = search needs
-
 pub charge-all-spec : {M : Type 1} → statement M
 charge-all-spec =
     tie.close
     (tie.spec
     Inv-loop
     μ-loop
-    loop-holds
-    charge-of-requires
-    add-charge-requires
-    next-requires
-    sub-left
-    loop-less
-    loop-again
-    returns)
+    (λ c. search needs)
+    (λ c κs. search needs)
+    (λ c κs. search needs)
+    (λ c κs. search needs)
+    (λ c. search needs)
+    (λ c. search needs)
+    (λ c. search needs)
+    (λ c. search needs))

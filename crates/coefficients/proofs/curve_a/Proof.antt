@@ -4,12 +4,6 @@ use Rattle.coefficients.specs.Integers.{scaledA}
 use Rattle.coefficients.proofs.curve_a.Statement.{statement}
 use Rattle.coefficients.proofs.curve_a.Tie as tie
 
-first-a-requires : tie.Need-first-a-requires
-first-a-requires c κs = search needs
-
-other-a-requires : tie.Need-other-a-requires
-other-a-requires c κs = search needs
-
 returns : tie.Need-returns
 unfolding scaledA
 returns c = rw (c .before .if1 .taken) (c .first-a .ensures)
@@ -19,4 +13,4 @@ unfolding scaledA
 returns-2 c = rw (c .before .if1 .left) (c .other-a .ensures)
 
 pub curve-a-spec : {M : Type 1} → statement M
-curve-a-spec = tie.close (tie.spec first-a-requires other-a-requires returns returns-2)
+curve-a-spec = tie.close (tie.spec (λ c κs. search needs) (λ c κs. search needs) returns returns-2)

@@ -4,12 +4,6 @@ use Rattle.coefficients.specs.Integers.{scaledB}
 use Rattle.coefficients.proofs.curve_b.Statement.{statement}
 use Rattle.coefficients.proofs.curve_b.Tie as tie
 
-first-b-requires : tie.Need-first-b-requires
-first-b-requires c κs = search needs
-
-other-b-requires : tie.Need-other-b-requires
-other-b-requires c κs = search needs
-
 returns : tie.Need-returns
 unfolding scaledB
 returns c = rw (c .before .if1 .taken) (c .first-b .ensures)
@@ -19,4 +13,4 @@ unfolding scaledB
 returns-2 c = rw (c .before .if1 .left) (c .other-b .ensures)
 
 pub curve-b-spec : {M : Type 1} → statement M
-curve-b-spec = tie.close (tie.spec first-b-requires other-b-requires returns returns-2)
+curve-b-spec = tie.close (tie.spec (λ c κs. search needs) (λ c κs. search needs) returns returns-2)

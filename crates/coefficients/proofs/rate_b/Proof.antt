@@ -5,9 +5,6 @@ use Rattle.coefficients.specs.Integers.{tenthsB}
 use Rattle.coefficients.proofs.rate_b.Statement.{statement}
 use Rattle.coefficients.proofs.rate_b.Tie as tie
 
-up-to-requires : tie.Need-up-to-requires
-up-to-requires c κs = search needs
-
 returns : tie.Need-returns
 unfolding tenthsB
 returns c = rw (c .before .if1 .taken) (c .up-to .ensures)
@@ -17,4 +14,4 @@ unfolding tenthsB
 returns-2 c = rw (c .if1 .left) refl
 
 pub rate-b-spec : {M : Type 1} → statement M
-rate-b-spec = tie.close (tie.spec up-to-requires returns returns-2)
+rate-b-spec = tie.close (tie.spec (λ c κs. search needs) returns returns-2)

@@ -5,18 +5,6 @@ use Rattle.coefficients.specs.Integers.{scaledC}
 use Rattle.coefficients.proofs.rate_c.Statement.{statement}
 use Rattle.coefficients.proofs.rate_c.Tie as tie
 
-mul-minus : tie.Need-mul-minus
-mul-minus c = search needs
-
-minus-requires : tie.Need-minus-requires
-minus-requires c κs = search needs
-
-up-to-requires : tie.Need-up-to-requires
-up-to-requires c κs = search needs
-
-up-to-requires-2 : tie.Need-up-to-requires-2
-up-to-requires-2 c κs = search needs
-
 returns : tie.Need-returns
 unfolding scaledC
 returns c = rw (c .before .before .before .if1 .taken, c .up-to2 .ensures, c .before .up-to .ensures, c .before .before .minus .ensures) refl
@@ -27,4 +15,4 @@ returns-2 c = rw (c .if1 .left) refl
 
 pub rate-c-spec : {M : Type 1} → statement M
 rate-c-spec =
-    tie.close (tie.spec mul-minus minus-requires up-to-requires up-to-requires-2 returns returns-2)
+    tie.close (tie.spec (λ c. search needs) (λ c κs. search needs) (λ c κs. search needs) (λ c κs. search needs) returns returns-2)

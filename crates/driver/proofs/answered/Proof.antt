@@ -5,9 +5,6 @@ use borrow.Author.Needs.{needs}
 use Rattle.driver.proofs.answered.Statement.{statement}
 use Rattle.driver.proofs.answered.Tie as tie
 
-add-t5 : tie.Need-add-t5
-add-t5 c = search needs
-
 returns : tie.Need-returns
 returns c = let e : c .before .args .refusal ≡ 0 = c .if1 .taken in rw (e) refl
 
@@ -15,4 +12,4 @@ returns-2 : tie.Need-returns-2
 returns-2 c = rw (ne-eqb (c .before .args .refusal) 0 (c .if1 .left)) refl
 
 pub answered-spec : {M : Type 1} → statement M
-answered-spec = tie.close (tie.spec add-t5 returns returns-2)
+answered-spec = tie.close (tie.spec (λ c. search needs) returns returns-2)

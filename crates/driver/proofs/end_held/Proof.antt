@@ -8,32 +8,11 @@ use Rattle.driver.proofs.Bytes.{held-line}
 use Rattle.driver.proofs.end_held.Statement.{statement}
 use Rattle.driver.proofs.end_held.Tie as tie
 
-hold-requires : tie.Need-hold-requires
-hold-requires c κs = search needs
-
-sub-end-line : tie.Need-sub-end-line
-sub-end-line c = search needs
-
-part-end-line-start : tie.Need-part-end-line-start
-part-end-line-start c = search needs
-
-part-end-line-end : tie.Need-part-end-line-end
-part-end-line-end c = search needs
-
-end-line-requires : tie.Need-end-line-requires
-end-line-requires c κs = search needs
-
-same-length : tie.Need-same-length
-same-length c = search needs
-
 returns : tie.Need-returns
 returns c =
     let a = c .before .before .before .before .before .before .before .before .before .before .args in
     let h = c .before .before .before .before .before .hold in
     (held-line (a .p) (h .last .0) (take (a .held) (a .tail .now)) (a .others .now) (h .result) (c .end-line .ensures .0) (h .ensures .0), c .end-line .ensures .1)
-
-end-line-requires-2 : tie.Need-end-line-requires-2
-end-line-requires-2 c κs = search needs
 
 returns-2 : tie.Need-returns-2
 returns-2 c =
@@ -44,12 +23,12 @@ pub end-held-spec : {M : Type 1} → statement M
 end-held-spec =
     tie.close
     (tie.spec
-    hold-requires
-    sub-end-line
-    part-end-line-start
-    part-end-line-end
-    end-line-requires
-    same-length
+    (λ c κs. search needs)
+    (λ c. search needs)
+    (λ c. search needs)
+    (λ c. search needs)
+    (λ c κs. search needs)
+    (λ c. search needs)
     returns
-    end-line-requires-2
+    (λ c κs. search needs)
     returns-2)

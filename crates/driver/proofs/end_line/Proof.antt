@@ -12,12 +12,6 @@ returns c =
     let a = c .before .before .before .args in
     (line-refused (a .p) (a .line .now) (c .if1 .taken), c .before .before .before .pre .0)
 
-open-requires : tie.Need-open-requires
-open-requires c κs = search needs
-
-answered-requires : tie.Need-answered-requires
-answered-requires c κs = search needs
-
 returns-2 : tie.Need-returns-2
 returns-2 c =
     let start = c .before .before .before .before .before .before .before in
@@ -25,12 +19,6 @@ returns-2 c =
     let o = c .before .before .«open» in
     let e : c .answered .result ≡ withLine (a .p) (a .line .now) = line-opens (a .p) (a .line .now) (o .result) (c .before .before .before .before .if1 .left) (c .before .before .before .if2 .taken) (o .ensures .0) (c .answered .ensures) in
     (e, subst (λ (x : Progress). Underway x) (sym e) (line-underway (a .p) (a .line .now) (start .pre .0)))
-
-feed-with-requires : tie.Need-feed-with-requires
-feed-with-requires c κs = search needs
-
-answered-requires-2 : tie.Need-answered-requires-2
-answered-requires-2 c κs = search needs
 
 returns-3 : tie.Need-returns-3
 returns-3 c =
@@ -45,9 +33,9 @@ end-line-spec =
     tie.close
     (tie.spec
     returns
-    open-requires
-    answered-requires
+    (λ c κs. search needs)
+    (λ c κs. search needs)
     returns-2
-    feed-with-requires
-    answered-requires-2
+    (λ c κs. search needs)
+    (λ c κs. search needs)
     returns-3)

@@ -13,33 +13,9 @@ use Rattle.driver.proofs.Answers.{ended-line}
 use Rattle.driver.proofs.finish.Statement.{statement}
 use Rattle.driver.proofs.finish.Tie as tie
 
-put-answer-requires : tie.Need-put-answer-requires
-put-answer-requires c κs = search needs
-
-same-length : tie.Need-same-length
-same-length c = search needs
-
 returns : tie.Need-returns
 unfolding endedWith
 returns c = let e : c .before .before .before .before .before .before .before .before .args .run .held ≡ 0 = c .before .before .before .before .if1 .taken in rw e (c .before .before .put-answer .ensures)
-
-sub-end-line : tie.Need-sub-end-line
-sub-end-line c = search needs
-
-part-end-line-start : tie.Need-part-end-line-start
-part-end-line-start c = search needs
-
-part-end-line-end : tie.Need-part-end-line-end
-part-end-line-end c = search needs
-
-end-line-requires : tie.Need-end-line-requires
-end-line-requires c κs = search needs
-
-put-answer-requires-2 : tie.Need-put-answer-requires-2
-put-answer-requires-2 c κs = search needs
-
-same-length-2 : tie.Need-same-length-2
-same-length-2 c = search needs
 
 returns-2 : tie.Need-returns-2
 returns-2 c =
@@ -54,13 +30,13 @@ pub finish-spec : {M : Type 1} → statement M
 finish-spec =
     tie.close
     (tie.spec
-    put-answer-requires
-    same-length
+    (λ c κs. search needs)
+    (λ c. search needs)
     returns
-    sub-end-line
-    part-end-line-start
-    part-end-line-end
-    end-line-requires
-    put-answer-requires-2
-    same-length-2
+    (λ c. search needs)
+    (λ c. search needs)
+    (λ c. search needs)
+    (λ c κs. search needs)
+    (λ c κs. search needs)
+    (λ c. search needs)
     returns-2)

@@ -24,18 +24,6 @@ loop-holds c =
     let n : length (take (a .held) (a .tail .now)) ≡ a .held = length-take-le (a .held) (a .tail .now) (omega arith) in
     (kept-none (take (a .held) (a .tail .now)) (omega arith), search needs, search needs, omega arith)
 
-shared-slice-read-keep : tie.Need-shared-slice-read-keep Inv-loop μ-loop
-shared-slice-read-keep c = search needs
-
-keep-requires : tie.Need-keep-requires Inv-loop μ-loop
-keep-requires c κs = search needs
-
-add-i : tie.Need-add-i Inv-loop μ-loop
-add-i c = search needs
-
-loop-less : tie.Need-loop-less Inv-loop μ-loop
-loop-less c = search needs
-
 loop-again : tie.Need-loop-again Inv-loop μ-loop
 loop-again c =
     let a = c .before .before .before .before .before .before .before .before .before .args in
@@ -45,9 +33,6 @@ loop-again c =
       search needs,
       omega arith,
     )
-
-same-length : tie.Need-same-length Inv-loop μ-loop
-same-length c = search needs
 
 returns : tie.Need-returns Inv-loop μ-loop
 returns c =
@@ -62,10 +47,10 @@ hold-spec =
     Inv-loop
     μ-loop
     loop-holds
-    shared-slice-read-keep
-    keep-requires
-    add-i
-    loop-less
+    (λ c. search needs)
+    (λ c κs. search needs)
+    (λ c. search needs)
+    (λ c. search needs)
     loop-again
-    same-length
+    (λ c. search needs)
     returns)

@@ -5,15 +5,6 @@ use Rattle.driver.proofs.Bytes.{kept-more, kept-full}
 use Rattle.driver.proofs.keep.Statement.{statement}
 use Rattle.driver.proofs.keep.Tie as tie
 
-slice-write-tail : tie.Need-slice-write-tail
-slice-write-tail c = search needs
-
-add-result : tie.Need-add-result
-add-result c = search needs
-
-same-length : tie.Need-same-length
-same-length c = search needs
-
 returns : tie.Need-returns
 returns c = (kept-more (c .before .args .tail .now) (c .before .args .held) (c .before .args .byte) (omega arith) (omega arith), omega arith)
 
@@ -21,4 +12,4 @@ returns-2 : tie.Need-returns-2
 returns-2 c = (kept-full (c .before .args .tail .now) (c .before .args .held) (c .before .args .byte) (omega arith) (omega arith), search needs)
 
 pub keep-spec : {M : Type 1} → statement M
-keep-spec = tie.close (tie.spec slice-write-tail add-result same-length returns returns-2)
+keep-spec = tie.close (tie.spec (λ c. search needs) (λ c. search needs) (λ c. search needs) returns returns-2)

@@ -10,30 +10,6 @@ use Rattle.driver.proofs.Law.{whole}
 use Rattle.driver.proofs.print_input.Statement.{statement}
 use Rattle.driver.proofs.print_input.Tie as tie
 
-table-requires : tie.Need-table-requires
-table-requires c κs = search needs
-
-rates-requires : tie.Need-rates-requires
-rates-requires c κs = search needs
-
-start-requires : tie.Need-start-requires
-start-requires c κs = search needs
-
-slice-aggregate-step : tie.Need-slice-aggregate-step
-slice-aggregate-step c = search needs
-
-step-requires : tie.Need-step-requires
-step-requires c κs = search needs
-
-slice-aggregate-finish : tie.Need-slice-aggregate-finish
-slice-aggregate-finish c = search needs
-
-finish-requires : tie.Need-finish-requires
-finish-requires c κs = search needs
-
-same-length : tie.Need-same-length
-same-length c = search needs
-
 returns : tie.Need-returns
 returns c =
     let a = c .before .before .before .before .before .before .before .before .before .before .before .before .before .before .before .before .before .args in
@@ -46,12 +22,12 @@ pub print-input-spec : {M : Type 1} → statement M
 print-input-spec =
     tie.close
     (tie.spec
-    table-requires
-    rates-requires
-    start-requires
-    slice-aggregate-step
-    step-requires
-    slice-aggregate-finish
-    finish-requires
-    same-length
+    (λ c κs. search needs)
+    (λ c κs. search needs)
+    (λ c κs. search needs)
+    (λ c. search needs)
+    (λ c κs. search needs)
+    (λ c. search needs)
+    (λ c κs. search needs)
+    (λ c. search needs)
     returns)

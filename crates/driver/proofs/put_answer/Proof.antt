@@ -13,37 +13,22 @@ use Rattle.driver.proofs.put_answer.Tie as tie
 put-refusal-requires : tie.Need-put-refusal-requires
 put-refusal-requires c κs = refusal-room (c .before .before .before .args .p .refusal) (c .before .before .before .args .p .number) (length (denote.Ref.now (c .before .before .before .args .out))) (omega arith) (omega arith) (omega arith)
 
-same-length : tie.Need-same-length
-same-length c = search needs
-
 returns : tie.Need-returns
 returns c = rw (printed-refused (c .before .before .before .before .before .before .args .p) (c .before .before .before .before .if1 .taken)) (c .before .before .put-refusal .ensures)
 
 put-refusal-requires-2 : tie.Need-put-refusal-requires-2
 put-refusal-requires-2 c κs = refusal-room 2 1 (length (denote.Ref.now (c .before .before .before .before .args .out))) (omega arith) (omega arith) (omega arith)
 
-same-length-2 : tie.Need-same-length-2
-same-length-2 c = search needs
-
 returns-2 : tie.Need-returns-2
 returns-2 c = rw (printed-empty (c .before .before .before .before .before .before .before .args .p) (c .before .before .before .before .before .if1 .left) (c .before .before .before .before .if2 .taken)) (c .before .before .put-refusal2 .ensures)
 
-close-requires : tie.Need-close-requires
-close-requires c κs = search needs
-
 put-refusal-requires-3 : tie.Need-put-refusal-requires-3
 put-refusal-requires-3 c κs = refusal-room 6 (c .before .before .before .before .before .before .before .before .before .before .before .args .p .number) _ (omega arith) (omega arith) (search needs)
-
-same-length-3 : tie.Need-same-length-3
-same-length-3 c = search needs
 
 returns-3 : tie.Need-returns-3
 returns-3 c =
     let k : (c .before .before .before .before .before .before .before .before .close .last .1 .0 ≡ denote.Ref.now (c .before .before .before .before .before .before .before .before .before .before .before .before .before .before .args .out)) × ((n : ℕ) → printedAtEnd (c .before .before .before .before .before .before .before .before .before .before .before .before .before .before .args .p .book) n ≡ refusalLine 6 n) = closing-refused (c .before .before .before .before .before .before .before .before .before .before .before .before .before .before .args .p .book) (denote.Ref.now (c .before .before .before .before .before .before .before .before .before .before .before .before .before .before .args .out)) (omega arith) (c .before .before .before .before .before .before .before .before .close .ensures .0) (c .before .before .before .before .before .before .before .before .close .ensures .1) (c .before .before .before .before .if3 .taken) in
     rw (printed-end (c .before .before .before .before .before .before .before .before .before .before .before .before .before .before .args .p) (c .before .before .before .before .before .before .before .before .before .before .before .before .if1 .left) (c .before .before .before .before .before .before .before .before .before .before .before .if2 .left), k .1 (c .before .before .before .before .before .before .before .before .before .before .before .before .before .before .args .p .number), ← k .0) (c .before .before .put-refusal3 .ensures)
-
-same-length-4 : tie.Need-same-length-4
-same-length-4 c = search needs
 
 returns-4 : tie.Need-returns-4
 returns-4 c = rw (printed-end (c .before .before .before .before .before .before .before .before .before .before .args .p) (c .before .before .before .before .before .before .before .before .if1 .left) (c .before .before .before .before .before .before .before .if2 .left)) (closing-written (c .before .before .before .before .before .before .before .before .before .before .args .p .book) (denote.Ref.now (c .before .before .before .before .before .before .before .before .before .before .args .out)) (omega arith) (c .before .before .before .before .close .ensures .0) (c .before .before .before .before .close .ensures .1) (c .if3 .left) (c .before .before .before .before .before .before .before .before .before .before .args .p .number))
@@ -53,14 +38,14 @@ put-answer-spec =
     tie.close
     (tie.spec
     put-refusal-requires
-    same-length
+    (λ c. search needs)
     returns
     put-refusal-requires-2
-    same-length-2
+    (λ c. search needs)
     returns-2
-    close-requires
+    (λ c κs. search needs)
     put-refusal-requires-3
-    same-length-3
+    (λ c. search needs)
     returns-3
-    same-length-4
+    (λ c. search needs)
     returns-4)

@@ -16,12 +16,9 @@ running =
       held = omega arith;
     }
 
-none-requires : tie.Need-none-requires
-none-requires c κs = search needs
-
 returns : tie.Need-returns
 returns c =
     (λ i. record { progress = record { refusal = 0; number = 1; book = record { header = zeroHeader; sums = c .none .ensures i } }; held = 0 }, subst (λ (s : Sums). Running (record { progress = record { refusal = 0; number = 1; book = record { header = zeroHeader; sums = s } }; held = 0 })) (sym (c .none .ensures)) running)
 
 pub start-spec : {M : Type 1} → statement M
-start-spec = tie.close (tie.spec none-requires returns)
+start-spec = tie.close (tie.spec (λ c κs. search needs) returns)

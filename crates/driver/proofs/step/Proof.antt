@@ -24,24 +24,6 @@ loop-holds : tie.Need-loop-holds Inv-loop μ-loop
 unfolding withBytes
 loop-holds c = search needs
 
-line-end-requires : tie.Need-line-end-requires Inv-loop μ-loop
-line-end-requires c κs = search needs
-
-sub-part : tie.Need-sub-part Inv-loop μ-loop
-sub-part c = search needs
-
-part-part-start : tie.Need-part-part-start Inv-loop μ-loop
-part-part-start c = search needs
-
-part-part-end : tie.Need-part-part-end Inv-loop μ-loop
-part-part-end c = search needs
-
-hold-requires : tie.Need-hold-requires Inv-loop μ-loop
-hold-requires c κs = search needs
-
-same-length : tie.Need-same-length Inv-loop μ-loop
-same-length c = search needs
-
 returns : tie.Need-returns Inv-loop μ-loop
 returns c =
     let a = c .before .before .before .before .before .before .before .before .before .before .before .before .args in
@@ -50,16 +32,10 @@ returns c =
     let n : length (take (l .held) (l .tail)) ≡ l .held = length-take-le (l .held) (l .tail) (omega arith) in
     ((λ j. record { progress = l .p; tail = c .before .before .hold .ensures .0 j }) ∙ sym (rest-read (record { progress = a .run .progress; tail = take (a .run .held) (a .tail .now) }) (a .chunk .now) (l .p) (take (l .held) (l .tail)) (l .i) (e .result) (l .inv .0) (omega arith) (l .inv .3) (e .ensures .0) (omega arith)), record { progress = l .inv .1; held = c .before .before .hold .ensures .1 })
 
-end-held-requires : tie.Need-end-held-requires Inv-loop μ-loop
-end-held-requires c κs = search needs
-
 add-i : tie.Need-add-i Inv-loop μ-loop
 add-i c =
     let a = c .before .before .before .before .before .before .before .before .before .before .before .before in
     record { fits = omega (arith, a .good .1 .1 .1 .1 .0, c .before .before .before .before .if1 .left) }
-
-loop-less : tie.Need-loop-less Inv-loop μ-loop
-loop-less c = search needs
 
 loop-again : tie.Need-loop-again Inv-loop μ-loop
 loop-again c =
@@ -68,9 +44,6 @@ loop-again c =
     let e = c .before .before .before .before .before .before .line-end in
     let n : length (take (l .held) (l .tail)) ≡ l .held = length-take-le (l .held) (l .tail) (omega arith) in
     ((λ j. record { progress = c .before .before .end-held .ensures .0 j; tail = [] }) ∙ sym (line-read (record { progress = a .run .progress; tail = take (a .run .held) (a .tail .now) }) (a .chunk .now) (l .p) (take (l .held) (l .tail)) (l .i) (e .result) (l .inv .0) (omega arith) (l .inv .3) (e .ensures .0) (omega arith)), c .before .before .end-held .ensures .1, omega arith, omega arith, search needs, l .inv .5, l .inv .6)
-
-same-length-2 : tie.Need-same-length-2 Inv-loop μ-loop
-same-length-2 c = search needs
 
 returns-2 : tie.Need-returns-2 Inv-loop μ-loop
 returns-2 c =
@@ -85,16 +58,16 @@ step-spec =
     Inv-loop
     μ-loop
     loop-holds
-    line-end-requires
-    sub-part
-    part-part-start
-    part-part-end
-    hold-requires
-    same-length
+    (λ c κs. search needs)
+    (λ c. search needs)
+    (λ c. search needs)
+    (λ c. search needs)
+    (λ c κs. search needs)
+    (λ c. search needs)
     returns
-    end-held-requires
+    (λ c κs. search needs)
     add-i
-    loop-less
+    (λ c. search needs)
     loop-again
-    same-length-2
+    (λ c. search needs)
     returns-2)

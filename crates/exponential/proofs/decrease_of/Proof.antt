@@ -7,18 +7,12 @@ use Rattle.exponential.proofs.Steps.{middle-most}
 use Rattle.exponential.proofs.decrease_of.Statement.{statement}
 use Rattle.exponential.proofs.decrease_of.Tie as tie
 
-middle-part-requires : tie.Need-middle-part-requires
-middle-part-requires c κs = search needs
-
 sub-small-product : tie.Need-sub-small-product
 sub-small-product c = omega (arith, middle-most (c .before .args .x))
-
-small-product-requires : tie.Need-small-product-requires
-small-product-requires c κs = search needs
 
 returns : tie.Need-returns
 unfolding decrease
 returns c = rw (c .small-product .ensures, c .before .middle-part .ensures) refl
 
 pub decrease-of-spec : {M : Type 1} → statement M
-decrease-of-spec = tie.close (tie.spec middle-part-requires sub-small-product small-product-requires returns)
+decrease-of-spec = tie.close (tie.spec (λ c κs. search needs) sub-small-product (λ c κs. search needs) returns)

@@ -9,23 +9,8 @@ use Rattle.exponential.proofs.Steps.{decrease-most, beyond, between}
 use Rattle.exponential.proofs.exp_upper.Statement.{statement}
 use Rattle.exponential.proofs.exp_upper.Tie as tie
 
-element-copy-out-result : tie.Need-element-copy-out-result
-element-copy-out-result c = search needs
-
 returns : tie.Need-returns
 returns c = rw (c .before .before .pre, beyond (c .before .before .args .y) (omega arith)) refl
-
-mul-lower : tie.Need-mul-lower
-mul-lower c = search needs
-
-element-copy-out-lower : tie.Need-element-copy-out-lower
-element-copy-out-lower c = search needs
-
-mul-decrease-of : tie.Need-mul-decrease-of
-mul-decrease-of c = search needs
-
-decrease-of-requires : tie.Need-decrease-of-requires
-decrease-of-requires c κs = search needs
 
 lower-requires : tie.Need-lower-requires
 lower-requires c κs =
@@ -43,11 +28,11 @@ pub exp-upper-spec : {M : Type 1} → statement M
 exp-upper-spec =
     tie.close
     (tie.spec
-    element-copy-out-result
+    (λ c. search needs)
     returns
-    mul-lower
-    element-copy-out-lower
-    mul-decrease-of
-    decrease-of-requires
+    (λ c. search needs)
+    (λ c. search needs)
+    (λ c. search needs)
+    (λ c κs. search needs)
     lower-requires
     returns-2)

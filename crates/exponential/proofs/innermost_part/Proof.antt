@@ -5,15 +5,9 @@ use Rattle.exponential.specs.Exponential.{innermost}
 use Rattle.exponential.proofs.innermost_part.Statement.{statement}
 use Rattle.exponential.proofs.innermost_part.Tie as tie
 
-sub-small-product : tie.Need-sub-small-product
-sub-small-product c = search needs
-
-small-product-requires : tie.Need-small-product-requires
-small-product-requires c κs = search needs
-
 returns : tie.Need-returns
 unfolding innermost
 returns c = omega arith
 
 pub innermost-part-spec : {M : Type 1} → statement M
-innermost-part-spec = tie.close (tie.spec sub-small-product small-product-requires returns)
+innermost-part-spec = tie.close (tie.spec (λ c. search needs) (λ c κs. search needs) returns)

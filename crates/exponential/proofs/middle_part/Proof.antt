@@ -7,9 +7,6 @@ use Rattle.exponential.proofs.Steps.{innermost-most, product-most}
 use Rattle.exponential.proofs.middle_part.Statement.{statement}
 use Rattle.exponential.proofs.middle_part.Tie as tie
 
-innermost-part-requires : tie.Need-innermost-part-requires
-innermost-part-requires c κs = search needs
-
 small-product-requires : tie.Need-small-product-requires
 small-product-requires c κs = omega (arith, innermost-most (c .before .args .x))
 
@@ -23,4 +20,4 @@ unfolding middle
 returns c = rw (c .small-product .ensures, c .before .innermost-part .ensures) refl
 
 pub middle-part-spec : {M : Type 1} → statement M
-middle-part-spec = tie.close (tie.spec innermost-part-requires small-product-requires sub-result returns)
+middle-part-spec = tie.close (tie.spec (λ c κs. search needs) small-product-requires sub-result returns)

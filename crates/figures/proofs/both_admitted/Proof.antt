@@ -5,19 +5,10 @@ use borrow.Author.Needs.{needs}
 use Rattle.figures.proofs.both_admitted.Statement.{statement}
 use Rattle.figures.proofs.both_admitted.Tie as tie
 
-admitted-b-requires : tie.Need-admitted-b-requires
-admitted-b-requires c κs = search needs
-
-admitted-c-requires : tie.Need-admitted-c-requires
-admitted-c-requires c κs = search needs
-
-add-result : tie.Need-add-result
-add-result c = search needs
-
 returns : tie.Need-returns
 unfolding admitted
 returns c = rw (c .admitted-c .ensures, c .before .admitted-b .ensures) refl
 
 pub both-admitted-spec : {M : Type 1} → statement M
 both-admitted-spec =
-    tie.close (tie.spec admitted-b-requires admitted-c-requires add-result returns)
+    tie.close (tie.spec (λ c κs. search needs) (λ c κs. search needs) (λ c. search needs) returns)

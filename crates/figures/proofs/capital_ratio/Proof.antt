@@ -10,18 +10,6 @@ returns : tie.Need-returns
 unfolding ratioOf
 returns c = rw (eq-eqb (c .before .args .required) 0 (c .if1 .taken))
 
-excess-requires : tie.Need-excess-requires
-excess-requires c κs = search needs
-
-ratio-size-requires : tie.Need-ratio-size-requires
-ratio-size-requires c κs = search needs
-
-excess-requires-2 : tie.Need-excess-requires-2
-excess-requires-2 c κs = search needs
-
-ratio-size-requires-2 : tie.Need-ratio-size-requires-2
-ratio-size-requires-2 c κs = search needs
-
 returns-2 : tie.Need-returns-2
 unfolding ratioOf
 returns-2 c = rw (ne-eqb (c .before .before .before .before .before .args .required) 0 (c .before .before .before .before .if1 .left), c .before .before .ratio-size .ensures, c .before .before .before .excess .ensures, c .ratio-size2 .ensures, c .before .excess2 .ensures) refl
@@ -31,8 +19,8 @@ capital-ratio-spec =
     tie.close
     (tie.spec
     returns
-    excess-requires
-    ratio-size-requires
-    excess-requires-2
-    ratio-size-requires-2
+    (λ c κs. search needs)
+    (λ c κs. search needs)
+    (λ c κs. search needs)
+    (λ c κs. search needs)
     returns-2)

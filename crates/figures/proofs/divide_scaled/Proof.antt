@@ -9,18 +9,6 @@ use Rattle.figures.proofs.DivisionLaws.{step-asks, step-gives}
 use Rattle.figures.proofs.divide_scaled.Statement.{statement}
 use Rattle.figures.proofs.divide_scaled.Tie as tie
 
-mul-t6 : tie.Need-mul-t6
-mul-t6 c = search needs
-
-div-t7 : tie.Need-div-t7
-div-t7 c = search needs
-
-mul-t8 : tie.Need-mul-t8
-mul-t8 c = search needs
-
-rem-t9 : tie.Need-rem-t9
-rem-t9 c = search needs
-
 division-step-requires : tie.Need-division-step-requires
 division-step-requires c κs =
     let n = c .args .n in
@@ -64,10 +52,10 @@ pub divide-scaled-spec : {M : Type 1} → statement M
 divide-scaled-spec =
     tie.close
     (tie.spec
-    mul-t6
-    div-t7
-    mul-t8
-    rem-t9
+    (λ c. search needs)
+    (λ c. search needs)
+    (λ c. search needs)
+    (λ c. search needs)
     division-step-requires
     division-step-requires-2
     division-step-requires-3

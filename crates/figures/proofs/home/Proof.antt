@@ -7,11 +7,8 @@ use Rattle.figures.proofs.home.Tie as tie
 add-excess : tie.Need-add-excess
 add-excess c = omega arith
 
-excess-requires : tie.Need-excess-requires
-excess-requires c κs = search needs
-
 returns : tie.Need-returns
 returns c = omega arith
 
 pub home-spec : {M : Type 1} → statement M
-home-spec = tie.close (tie.spec add-excess excess-requires returns)
+home-spec = tie.close (tie.spec add-excess (λ c κs. search needs) returns)

@@ -4,14 +4,8 @@ use borrow.Author.Needs.{needs}
 use Rattle.figures.proofs.money_sum.Statement.{statement}
 use Rattle.figures.proofs.money_sum.Tie as tie
 
-sum-requires : tie.Need-sum-requires
-sum-requires c κs = search needs
-
-sum-requires-2 : tie.Need-sum-requires-2
-sum-requires-2 c κs = search needs
-
 returns : tie.Need-returns
 returns c = rw (c .before .sum .ensures, c .sum2 .ensures) refl
 
 pub money-sum-spec : {M : Type 1} → statement M
-money-sum-spec = tie.close (tie.spec sum-requires sum-requires-2 returns)
+money-sum-spec = tie.close (tie.spec (λ c κs. search needs) (λ c κs. search needs) returns)

@@ -10,9 +10,6 @@ add-excess c = omega arith
 add-excess-2 : tie.Need-add-excess-2
 add-excess-2 c = omega arith
 
-excess-requires : tie.Need-excess-requires
-excess-requires c κs = search needs
-
 add-result : tie.Need-add-result
 add-result c = omega arith
 
@@ -20,4 +17,4 @@ returns : tie.Need-returns
 returns c = omega arith
 
 pub oper-spec : {M : Type 1} → statement M
-oper-spec = tie.close (tie.spec add-excess add-excess-2 excess-requires add-result returns)
+oper-spec = tie.close (tie.spec add-excess add-excess-2 (λ c κs. search needs) add-result returns)

@@ -8,20 +8,8 @@ use borrow.Author.Needs.{needs}
 use Rattle.figures.proofs.ratio_size.Statement.{statement}
 use Rattle.figures.proofs.ratio_size.Tie as tie
 
-mul-if1 : tie.Need-mul-if1
-mul-if1 c = search needs
-
-div-if1 : tie.Need-div-if1
-div-if1 c = search needs
-
 returns : tie.Need-returns
 returns c = sym (size-limit (c .before .args .negative) (c .before .args .n) (c .before .args .d) (c .before .pre .0) (c .if1 .taken))
-
-divide-scaled-requires : tie.Need-divide-scaled-requires
-divide-scaled-requires c κs = search needs
-
-smaller-requires : tie.Need-smaller-requires
-smaller-requires c κs = search needs
 
 add-result : tie.Need-add-result
 add-result c =
@@ -45,11 +33,11 @@ pub ratio-size-spec : {M : Type 1} → statement M
 ratio-size-spec =
     tie.close
     (tie.spec
-    mul-if1
-    div-if1
+    (λ c. search needs)
+    (λ c. search needs)
     returns
-    divide-scaled-requires
-    smaller-requires
+    (λ c κs. search needs)
+    (λ c κs. search needs)
     add-result
     returns-2
     returns-3)

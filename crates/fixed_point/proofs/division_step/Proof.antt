@@ -10,15 +10,9 @@ use Rattle.fixed_point.proofs.division_step.Tie as tie
 scaled : (r f divisor : ℕ) → r < divisor → r * f ≤ divisor * f
 scaled r f divisor h = mul-le-mul-right f (le-of-lt h)
 
-mul-t4 : tie.Need-mul-t4
-mul-t4 c = search needs
-
 mul-t5 : tie.Need-mul-t5
 mul-t5 c =
     omega (arith, scaled (c .before .before .args .d .remainder) (c .before .before .args .f) (c .before .before .args .divisor) (c .before .before .pre .0))
-
-div-t6 : tie.Need-div-t6
-div-t6 c = search needs
 
 add-t7 : tie.Need-add-t7
 add-t7 c =
@@ -28,11 +22,5 @@ mul-t8 : tie.Need-mul-t8
 mul-t8 c =
     omega (arith, scaled (c .before .before .before .args .d .remainder) (c .before .before .before .args .f) (c .before .before .before .args .divisor) (c .before .before .before .pre .0))
 
-rem-t9 : tie.Need-rem-t9
-rem-t9 c = search needs
-
-returns : tie.Need-returns
-returns c = search needs
-
 pub division-step-spec : {M : Type 1} → statement M
-division-step-spec = tie.close (tie.spec mul-t4 mul-t5 div-t6 add-t7 mul-t8 rem-t9 returns)
+division-step-spec = tie.close (tie.spec (λ c. search needs) mul-t5 (λ c. search needs) add-t7 mul-t8 (λ c. search needs) (λ c. search needs))

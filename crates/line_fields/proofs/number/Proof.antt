@@ -29,20 +29,11 @@ returns c = missing-empty (c .before .before .args .digits .now) (c .if1 .taken)
 returns-2 : tie.Need-returns-2 Inv-loop μ-loop
 returns-2 c = missing-long (c .before .before .before .args .digits .now) (c .if2 .taken)
 
-shared-slice-read-if3 : tie.Need-shared-slice-read-if3 Inv-loop μ-loop
-shared-slice-read-if3 c = search needs
-
 returns-3 : tie.Need-returns-3 Inv-loop μ-loop
 returns-3 c = missing-zero (c .before .before .before .before .before .args .digits .now) (c .if3 .taken)
 
 loop-holds : tie.Need-loop-holds Inv-loop μ-loop
 loop-holds c = (search needs, search needs, refl, refl)
-
-shared-slice-read-b : tie.Need-shared-slice-read-b Inv-loop μ-loop
-shared-slice-read-b c = search needs
-
-inside-requires : tie.Need-inside-requires Inv-loop μ-loop
-inside-requires c κs = search needs
 
 returns-4 : tie.Need-returns-4 Inv-loop μ-loop
 returns-4 c =
@@ -63,9 +54,6 @@ sub-wide c =
     within-bounds 48 57 (getD (a .digits .now) (l .i) 0)
     (sym (c .before .inside .ensures) ∙ not-false (c .before .inside .result) (c .if4 .left)) .0
 
-wide-requires : tie.Need-wide-requires Inv-loop μ-loop
-wide-requires c κs = search needs
-
 add-value : tie.Need-add-value Inv-loop μ-loop
 add-value c =
     let a = c .before .before .before .before .before .before .before .before .before .before .before .args in
@@ -74,12 +62,6 @@ add-value c =
     within-bounds 48 57 (getD (a .digits .now) (l .i) 0)
     (sym (c .before .before .inside .ensures) ∙ not-false (c .before .before .inside .result) (c .before .if4 .left)) in
     record { fits = omega (arith, below-limit (l .value) (l .i) (l .inv .1) (omega arith)) }
-
-add-i : tie.Need-add-i Inv-loop μ-loop
-add-i c = search needs
-
-loop-less : tie.Need-loop-less Inv-loop μ-loop
-loop-less c = search needs
 
 loop-again : tie.Need-loop-again Inv-loop μ-loop
 loop-again c =
@@ -114,17 +96,17 @@ number-spec =
     μ-loop
     returns
     returns-2
-    shared-slice-read-if3
+    (λ c. search needs)
     returns-3
     loop-holds
-    shared-slice-read-b
-    inside-requires
+    (λ c. search needs)
+    (λ c κs. search needs)
     returns-4
     mul-value
     sub-wide
-    wide-requires
+    (λ c κs. search needs)
     add-value
-    add-i
-    loop-less
+    (λ c. search needs)
+    (λ c. search needs)
     loop-again
     returns-5)

@@ -4,39 +4,6 @@ use borrow.Author.Needs.{needs}
 use Rattle.other_charges.proofs.add_on.Statement.{statement}
 use Rattle.other_charges.proofs.add_on.Tie as tie
 
-enum-told : tie.Need-enum-told
-enum-told c = search needs
-
-by-months-requires : tie.Need-by-months-requires
-by-months-requires c κs = search needs
-
-enum-told-2 : tie.Need-enum-told-2
-enum-told-2 c = search needs
-
-enum-told-3 : tie.Need-enum-told-3
-enum-told-3 c = search needs
-
-by-months-requires-2 : tie.Need-by-months-requires-2
-by-months-requires-2 c κs = search needs
-
-enum-told-4 : tie.Need-enum-told-4
-enum-told-4 c = search needs
-
-by-months-requires-3 : tie.Need-by-months-requires-3
-by-months-requires-3 c κs = search needs
-
-enum-told-5 : tie.Need-enum-told-5
-enum-told-5 c = search needs
-
-by-months-requires-4 : tie.Need-by-months-requires-4
-by-months-requires-4 c κs = search needs
-
-enum-told-6 : tie.Need-enum-told-6
-enum-told-6 c = search needs
-
-by-months-requires-5 : tie.Need-by-months-requires-5
-by-months-requires-5 c κs = search needs
-
 returns : tie.Need-returns
 unfolding addOnThousandths
 returns c = rw (c .before .enum-told .given .1) (c .by-months .ensures)
@@ -65,17 +32,17 @@ pub add-on-spec : {M : Type 1} → statement M
 add-on-spec =
     tie.close
     (tie.spec
-    enum-told
-    by-months-requires
-    enum-told-2
-    enum-told-3
-    by-months-requires-2
-    enum-told-4
-    by-months-requires-3
-    enum-told-5
-    by-months-requires-4
-    enum-told-6
-    by-months-requires-5
+    (λ c. search needs)
+    (λ c κs. search needs)
+    (λ c. search needs)
+    (λ c. search needs)
+    (λ c κs. search needs)
+    (λ c. search needs)
+    (λ c κs. search needs)
+    (λ c. search needs)
+    (λ c κs. search needs)
+    (λ c. search needs)
+    (λ c κs. search needs)
     returns
     returns-2
     returns-3

@@ -10,8 +10,5 @@ mul-result c = omega (arith, bounded (c .args .amount) (c .args .factor) 1000000
 mul-result-2 : tie.Need-mul-result-2
 mul-result-2 c = omega (arith, bounded (c .args .amount) (c .args .factor) 100000000000 10000 (c .pre .0) (c .pre .1))
 
-returns : tie.Need-returns
-returns c = search needs
-
 pub asset-parts-spec : {M : Type 1} → statement M
-asset-parts-spec = tie.close (tie.spec mul-result mul-result-2 returns)
+asset-parts-spec = tie.close (tie.spec mul-result mul-result-2 (λ c. search needs))

@@ -16,12 +16,6 @@ addon-small kind months e = rw e (add-on-bounded kind months)
 added : (n a p : ℕ) → n ≤ 100000000000 → a ≤ 150 → p ≤ 100 → n * a * p ≤ 100000000000 * 150 * 100
 added n a p h k l = bounded (n * a) p (100000000000 * 150) 100 (bounded n a 100000000000 150 h k) l
 
-add-on-requires : tie.Need-add-on-requires
-add-on-requires c = search needs
-
-mul-result : tie.Need-mul-result
-mul-result c = search needs
-
 mul-result-2 : tie.Need-mul-result-2
 mul-result-2 c = omega (arith, bounded (c .before .args .notional) (c .add-on .result) 100000000000 150 (c .before .pre .1) (addon-small (c .before .args .kind) (c .before .args .months) (c .add-on .ensures)))
 
@@ -40,4 +34,4 @@ returns c = rw (c .add-on .ensures) refl
 
 pub derivative-parts-spec : {M : Type 1} → statement M
 derivative-parts-spec =
-    tie.close (tie.spec add-on-requires mul-result mul-result-2 mul-result-3 add-result mul-result-4 returns)
+    tie.close (tie.spec (λ c. search needs) (λ c. search needs) mul-result-2 mul-result-3 add-result mul-result-4 returns)

@@ -11,9 +11,6 @@ use Rattle.other_charges.proofs.provision_parts.Tie as tie
 tenths-small : {r : ℕ} (term done : ℕ) → r ≡ provisionTenths term done → r ≤ 60
 tenths-small term done e = rw e (tenths-bounded term done)
 
-provision-tenths-requires : tie.Need-provision-tenths-requires
-provision-tenths-requires c κs = search needs
-
 mul-result : tie.Need-mul-result
 mul-result c =
     omega (arith, bounded (c .before .args .premium) (c .provision-tenths .result) 100000000 60 (c .before .pre .0) (tenths-small (c .before .args .term) (c .before .args .done) (c .provision-tenths .ensures)))
@@ -27,4 +24,4 @@ returns c = rw (c .provision-tenths .ensures) refl
 
 pub provision-parts-spec : {M : Type 1} → statement M
 provision-parts-spec =
-    tie.close (tie.spec provision-tenths-requires mul-result mul-result-2 returns)
+    tie.close (tie.spec (λ c κs. search needs) mul-result mul-result-2 returns)

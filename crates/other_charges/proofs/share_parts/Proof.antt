@@ -10,8 +10,5 @@ mul-result c = omega (arith, bounded (c .args .amount) (c .args .percent) 100000
 mul-result-2 : tie.Need-mul-result-2
 mul-result-2 c = omega (arith, bounded (c .args .amount) (c .args .percent) 100000000000 100 (c .pre .0) (c .pre .1))
 
-returns : tie.Need-returns
-returns c = search needs
-
 pub share-parts-spec : {M : Type 1} → statement M
-share-parts-spec = tie.close (tie.spec mul-result mul-result-2 returns)
+share-parts-spec = tie.close (tie.spec mul-result mul-result-2 (λ c. search needs))

@@ -25,9 +25,6 @@ sub-put-value c = omega (arith, size (c .before .before .before .before .before 
 part-put-value-start : tie.Need-part-put-value-start
 part-put-value-start c = omega (arith, size (c .before .before .before .before .before .before))
 
-part-put-value-end : tie.Need-part-put-value-end
-part-put-value-end c = search needs
-
 put-value-requires : tie.Need-put-value-requires
 put-value-requires c κs = omega (arith, size (c .before .before .before .before .before .before .before))
 
@@ -40,20 +37,11 @@ sub-put-bytes c = omega (arith, size (c .before .before .before .before .before 
 part-put-bytes-start : tie.Need-part-put-bytes-start
 part-put-bytes-start c = omega (arith, size (c .before .before .before .before .before .before .before .before .before .before))
 
-part-put-bytes-end : tie.Need-part-put-bytes-end
-part-put-bytes-end c = search needs
-
-slice-aggregate-put-bytes : tie.Need-slice-aggregate-put-bytes
-slice-aggregate-put-bytes c = search needs
-
 put-bytes-requires : tie.Need-put-bytes-requires
 put-bytes-requires c κs = omega (arith, size (c .before .before .before .before .before .before .before .before .before .before .before .before))
 
 add-result : tie.Need-add-result
 add-result c = omega (arith, size (c .before .before .before .before .before .before .before .before .before .before .before .before .before .before .before))
-
-same-length : tie.Need-same-length
-same-length c = search needs
 
 returns : tie.Need-returns
 returns c =
@@ -68,14 +56,14 @@ put-line-spec =
     put-marked-requires
     sub-put-value
     part-put-value-start
-    part-put-value-end
+    (λ c. search needs)
     put-value-requires
     add-at
     sub-put-bytes
     part-put-bytes-start
-    part-put-bytes-end
-    slice-aggregate-put-bytes
+    (λ c. search needs)
+    (λ c. search needs)
     put-bytes-requires
     add-result
-    same-length
+    (λ c. search needs)
     returns)

@@ -8,23 +8,14 @@ use borrow.Author.Needs.{needs}
 use Rattle.report.proofs.put_marked.Statement.{statement}
 use Rattle.report.proofs.put_marked.Tie as tie
 
-slice-write-out : tie.Need-slice-write-out
-slice-write-out c = search needs
-
 sub-put-bytes : tie.Need-sub-put-bytes
 sub-put-bytes c = simp length-set (omega arith)
 
 part-put-bytes-start : tie.Need-part-put-bytes-start
 part-put-bytes-start c = simp length-set (omega arith)
 
-part-put-bytes-end : tie.Need-part-put-bytes-end
-part-put-bytes-end c = search needs
-
 put-bytes-requires : tie.Need-put-bytes-requires
 put-bytes-requires c κs = omega (arith, rest-length (c .before .before .before .args .out .now) (c .before .before .before .args .mark))
-
-add-result : tie.Need-add-result
-add-result c = search needs
 
 same-length : tie.Need-same-length
 same-length c = c .before .out .given .1 ∙ length-set (c .before .before .before .before .before .before .args .out .now) 0 (c .before .before .before .before .before .before .args .mark)
@@ -36,11 +27,11 @@ pub put-marked-spec : {M : Type 1} → statement M
 put-marked-spec =
     tie.close
     (tie.spec
-    slice-write-out
+    (λ c. search needs)
     sub-put-bytes
     part-put-bytes-start
-    part-put-bytes-end
+    (λ c. search needs)
     put-bytes-requires
-    add-result
+    (λ c. search needs)
     same-length
     returns)

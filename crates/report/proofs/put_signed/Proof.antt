@@ -5,23 +5,14 @@ use borrow.Author.Needs.{needs}
 use Rattle.report.proofs.put_signed.Statement.{statement}
 use Rattle.report.proofs.put_signed.Tie as tie
 
-sub-put-marked-number : tie.Need-sub-put-marked-number
-sub-put-marked-number c = search needs
-
 put-marked-number-requires : tie.Need-put-marked-number-requires
 put-marked-number-requires c κs = rw (signed-negative (c .before .before .before .before .before .args .value) (c .before .before .if1 .taken)) at (c .before .before .before .before .before .pre)
 
 put-number-requires : tie.Need-put-number-requires
 put-number-requires c κs = rw (signed-positive (c .before .before .before .before .before .args .value) (c .before .before .if1 .left)) at (c .before .before .before .before .before .pre)
 
-same-length : tie.Need-same-length
-same-length c = search needs
-
 returns : tie.Need-returns
 returns c = rw (signed-negative (c .before .before .before .before .before .before .before .before .args .value) (c .before .before .before .before .before .if1 .taken)) (c .before .before .put-marked-number .ensures)
-
-same-length-2 : tie.Need-same-length-2
-same-length-2 c = search needs
 
 returns-2 : tie.Need-returns-2
 returns-2 c = rw (signed-positive (c .before .before .before .before .before .before .before .before .args .value) (c .before .before .before .before .before .if1 .left)) (c .before .before .put-number .ensures)
@@ -30,10 +21,10 @@ pub put-signed-spec : {M : Type 1} → statement M
 put-signed-spec =
     tie.close
     (tie.spec
-    sub-put-marked-number
+    (λ c. search needs)
     put-marked-number-requires
     put-number-requires
-    same-length
+    (λ c. search needs)
     returns
-    same-length-2
+    (λ c. search needs)
     returns-2)

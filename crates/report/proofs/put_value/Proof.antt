@@ -8,23 +8,14 @@ use borrow.Author.Needs.{needs}
 use Rattle.report.proofs.put_value.Statement.{statement}
 use Rattle.report.proofs.put_value.Tie as tie
 
-slice-write-out : tie.Need-slice-write-out
-slice-write-out c = search needs
-
 sub-put-signed : tie.Need-sub-put-signed
 sub-put-signed c = simp length-set (omega arith)
 
 part-put-signed-start : tie.Need-part-put-signed-start
 part-put-signed-start c = simp length-set (omega arith)
 
-part-put-signed-end : tie.Need-part-put-signed-end
-part-put-signed-end c = search needs
-
 put-signed-requires : tie.Need-put-signed-requires
 put-signed-requires c κs = omega (arith, rest-length (c .before .before .args .out .now) 32)
-
-add-result : tie.Need-add-result
-add-result c = search needs
 
 same-length : tie.Need-same-length
 same-length c = c .before .out .given .1 ∙ length-set (c .before .before .before .before .before .args .out .now) 0 32
@@ -36,11 +27,11 @@ pub put-value-spec : {M : Type 1} → statement M
 put-value-spec =
     tie.close
     (tie.spec
-    slice-write-out
+    (λ c. search needs)
     sub-put-signed
     part-put-signed-start
-    part-put-signed-end
+    (λ c. search needs)
     put-signed-requires
-    add-result
+    (λ c. search needs)
     same-length
     returns)

@@ -24,9 +24,6 @@ sub-put-marked c = omega (arith, size (c .before .before .before .before .before
 part-put-marked-start : tie.Need-part-put-marked-start
 part-put-marked-start c = omega (arith, size (c .before .before .before .before .before .before .before))
 
-part-put-marked-end : tie.Need-part-put-marked-end
-part-put-marked-end c = search needs
-
 put-marked-requires-2 : tie.Need-put-marked-requires-2
 put-marked-requires-2 c κs = omega (arith, size (c .before .before .before .before .before .before .before .before))
 
@@ -39,20 +36,11 @@ sub-put-bytes c = omega (arith, size (c .before .before .before .before .before 
 part-put-bytes-start : tie.Need-part-put-bytes-start
 part-put-bytes-start c = omega (arith, size (c .before .before .before .before .before .before .before .before .before .before .before))
 
-part-put-bytes-end : tie.Need-part-put-bytes-end
-part-put-bytes-end c = search needs
-
-slice-aggregate-put-bytes : tie.Need-slice-aggregate-put-bytes
-slice-aggregate-put-bytes c = search needs
-
 put-bytes-requires : tie.Need-put-bytes-requires
 put-bytes-requires c κs = omega (arith, size (c .before .before .before .before .before .before .before .before .before .before .before .before .before))
 
 add-result : tie.Need-add-result
 add-result c = omega (arith, size (c .before .before .before .before .before .before .before .before .before .before .before .before .before .before .before .before))
-
-same-length : tie.Need-same-length
-same-length c = search needs
 
 returns : tie.Need-returns
 returns c =
@@ -67,14 +55,14 @@ put-word-line-spec =
     put-marked-requires
     sub-put-marked
     part-put-marked-start
-    part-put-marked-end
+    (λ c. search needs)
     put-marked-requires-2
     add-at
     sub-put-bytes
     part-put-bytes-start
-    part-put-bytes-end
-    slice-aggregate-put-bytes
+    (λ c. search needs)
+    (λ c. search needs)
     put-bytes-requires
     add-result
-    same-length
+    (λ c. search needs)
     returns)

@@ -4,75 +4,6 @@ use borrow.Author.Needs.{needs}
 use Rattle.book.proofs.shares.amount.Statement.{statement}
 use Rattle.book.proofs.shares.amount.Tie as tie
 
-enum-told : tie.Need-enum-told
-enum-told c = search needs
-
-share-parts-requires : tie.Need-share-parts-requires
-share-parts-requires c κs = search needs
-
-rest-requires : tie.Need-rest-requires
-rest-requires c κs = search needs
-
-enum-told-2 : tie.Need-enum-told-2
-enum-told-2 c = search needs
-
-share-parts-requires-2 : tie.Need-share-parts-requires-2
-share-parts-requires-2 c κs = search needs
-
-rest-requires-2 : tie.Need-rest-requires-2
-rest-requires-2 c κs = search needs
-
-enum-told-3 : tie.Need-enum-told-3
-enum-told-3 c = search needs
-
-share-parts-requires-3 : tie.Need-share-parts-requires-3
-share-parts-requires-3 c κs = search needs
-
-rest-requires-3 : tie.Need-rest-requires-3
-rest-requires-3 c κs = search needs
-
-enum-told-4 : tie.Need-enum-told-4
-enum-told-4 c = search needs
-
-no-amount-requires : tie.Need-no-amount-requires
-no-amount-requires c κs = search needs
-
-capital-requires : tie.Need-capital-requires
-capital-requires c κs = search needs
-
-enum-told-5 : tie.Need-enum-told-5
-enum-told-5 c = search needs
-
-no-amount-requires-2 : tie.Need-no-amount-requires-2
-no-amount-requires-2 c κs = search needs
-
-capital-requires-2 : tie.Need-capital-requires-2
-capital-requires-2 c κs = search needs
-
-enum-told-6 : tie.Need-enum-told-6
-enum-told-6 c = search needs
-
-no-amount-requires-3 : tie.Need-no-amount-requires-3
-no-amount-requires-3 c κs = search needs
-
-no-amount-requires-4 : tie.Need-no-amount-requires-4
-no-amount-requires-4 c κs = search needs
-
-capital-requires-3 : tie.Need-capital-requires-3
-capital-requires-3 c κs = search needs
-
-enum-told-7 : tie.Need-enum-told-7
-enum-told-7 c = search needs
-
-no-amount-requires-5 : tie.Need-no-amount-requires-5
-no-amount-requires-5 c κs = search needs
-
-no-amount-requires-6 : tie.Need-no-amount-requires-6
-no-amount-requires-6 c κs = search needs
-
-capital-requires-4 : tie.Need-capital-requires-4
-capital-requires-4 c κs = search needs
-
 returns : tie.Need-returns
 unfolding amountShare
 returns c = rw (c .before .before .enum-told .given .1, c .rest .ensures, c .before .share-parts .ensures) refl
@@ -105,29 +36,29 @@ pub amount-spec : {M : Type 1} → statement M
 amount-spec =
     tie.close
     (tie.spec
-    enum-told
-    share-parts-requires
-    rest-requires
-    enum-told-2
-    share-parts-requires-2
-    rest-requires-2
-    enum-told-3
-    share-parts-requires-3
-    rest-requires-3
-    enum-told-4
-    no-amount-requires
-    capital-requires
-    enum-told-5
-    no-amount-requires-2
-    capital-requires-2
-    enum-told-6
-    no-amount-requires-3
-    no-amount-requires-4
-    capital-requires-3
-    enum-told-7
-    no-amount-requires-5
-    no-amount-requires-6
-    capital-requires-4
+    (λ c. search needs)
+    (λ c κs. search needs)
+    (λ c κs. search needs)
+    (λ c. search needs)
+    (λ c κs. search needs)
+    (λ c κs. search needs)
+    (λ c. search needs)
+    (λ c κs. search needs)
+    (λ c κs. search needs)
+    (λ c. search needs)
+    (λ c κs. search needs)
+    (λ c κs. search needs)
+    (λ c. search needs)
+    (λ c κs. search needs)
+    (λ c κs. search needs)
+    (λ c. search needs)
+    (λ c κs. search needs)
+    (λ c κs. search needs)
+    (λ c κs. search needs)
+    (λ c. search needs)
+    (λ c κs. search needs)
+    (λ c κs. search needs)
+    (λ c κs. search needs)
     returns
     returns-2
     returns-3

@@ -4,15 +4,9 @@ use borrow.Author.Needs.{needs}
 use Rattle.book.proofs.shares.asset.Statement.{statement}
 use Rattle.book.proofs.shares.asset.Tie as tie
 
-asset-parts-requires : tie.Need-asset-parts-requires
-asset-parts-requires c κs = search needs
-
-rest-requires : tie.Need-rest-requires
-rest-requires c κs = search needs
-
 returns : tie.Need-returns
 unfolding assetShare
 returns c = rw (c .rest .ensures, c .before .asset-parts .ensures) refl
 
 pub asset-spec : {M : Type 1} → statement M
-asset-spec = tie.close (tie.spec asset-parts-requires rest-requires returns)
+asset-spec = tie.close (tie.spec (λ c κs. search needs) (λ c κs. search needs) returns)

@@ -7,27 +7,9 @@ use borrow.Author.Needs.{needs}
 use Rattle.book.proofs.shares.loan.Statement.{statement}
 use Rattle.book.proofs.shares.loan.Tie as tie
 
-factor-requires : tie.Need-factor-requires
-factor-requires c κs = search needs
-
 charge-requires : tie.Need-charge-requires
 charge-requires c κs =
     (rw (c .before .factor .ensures) (chargeable (good-terms (c .before .before .args .h)) (c .before .before .args .l) (c .before .before .pre .0)), c .before .before .pre .1)
-
-unscored-requires : tie.Need-unscored-requires
-unscored-requires c κs = search needs
-
-no-money-requires : tie.Need-no-money-requires
-no-money-requires c κs = search needs
-
-no-money-requires-2 : tie.Need-no-money-requires-2
-no-money-requires-2 c κs = search needs
-
-no-amount-requires : tie.Need-no-amount-requires
-no-amount-requires c κs = search needs
-
-no-amount-requires-2 : tie.Need-no-amount-requires-2
-no-amount-requires-2 c κs = search needs
 
 returns : tie.Need-returns
 unfolding loanShare loanNumbers
@@ -38,11 +20,11 @@ pub loan-spec : {M : Type 1} → statement M
 loan-spec =
     tie.close
     (tie.spec
-    factor-requires
+    (λ c κs. search needs)
     charge-requires
-    unscored-requires
-    no-money-requires
-    no-money-requires-2
-    no-amount-requires
-    no-amount-requires-2
+    (λ c κs. search needs)
+    (λ c κs. search needs)
+    (λ c κs. search needs)
+    (λ c κs. search needs)
+    (λ c κs. search needs)
     returns)

@@ -4,12 +4,6 @@ use borrow.Author.Needs.{needs}
 use Rattle.book.proofs.shares.unscored.Statement.{statement}
 use Rattle.book.proofs.shares.unscored.Tie as tie
 
-enum-told : tie.Need-enum-told
-enum-told c = search needs
-
-enum-told-2 : tie.Need-enum-told-2
-enum-told-2 c = search needs
-
 returns : tie.Need-returns
 unfolding unscoredCount
 returns c = rw (c .enum-told .given .1) refl
@@ -19,4 +13,4 @@ unfolding unscoredCount
 returns-2 c = rw (c .enum-told2 .given .1) refl
 
 pub unscored-spec : {M : Type 1} → statement M
-unscored-spec = tie.close (tie.spec enum-told enum-told-2 returns returns-2)
+unscored-spec = tie.close (tie.spec (λ c. search needs) (λ c. search needs) returns returns-2)

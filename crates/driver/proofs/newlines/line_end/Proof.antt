@@ -10,12 +10,6 @@ use Rattle.driver.proofs.FirstNewline.{found-in-rest, index-inside}
 use Rattle.driver.proofs.newlines.line_end.Statement.{statement}
 use Rattle.driver.proofs.newlines.line_end.Tie as tie
 
-skip-blocks-requires : tie.Need-skip-blocks-requires
-skip-blocks-requires c κs = search needs
-
-find-requires : tie.Need-find-requires
-find-requires c κs = search needs
-
 returns : tie.Need-returns
 returns c =
     let a = c .before .before .before .args in
@@ -25,4 +19,4 @@ returns c =
     (f ∙ sym (s .ensures .0), (omega (arith, f, s .ensures .0), omega (arith, f, s .ensures .1, index-inside (drop (s .result) (a .chunk .now)))))
 
 pub line-end-spec : {M : Type 1} → statement M
-line-end-spec = tie.close (tie.spec skip-blocks-requires find-requires returns)
+line-end-spec = tie.close (tie.spec (λ c κs. search needs) (λ c κs. search needs) returns)

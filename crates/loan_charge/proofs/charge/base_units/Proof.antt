@@ -13,9 +13,6 @@ use borrow.Author.Needs.{needs}
 use Rattle.loan_charge.proofs.charge.base_units.Statement.{statement}
 use Rattle.loan_charge.proofs.charge.base_units.Tie as tie
 
-curve-a-requires : tie.Need-curve-a-requires
-curve-a-requires c κs = search needs
-
 curve-units-requires : tie.Need-curve-units-requires
 curve-units-requires c κs = (
   omega arith,
@@ -23,9 +20,6 @@ curve-units-requires c κs = (
   subst⁻¹ (λ (x : ScaledCurve). Usable x) (c .curve-a .ensures) (usable-a (c .before .args .first) (c .before .pre .2)),
   c .before .pre .4,
 )
-
-curve-b-requires : tie.Need-curve-b-requires
-curve-b-requires c κs = search needs
 
 curve-units-requires-2 : tie.Need-curve-units-requires-2
 curve-units-requires-2 c κs = (
@@ -45,9 +39,6 @@ sum-of-requires c κs =
     (weighted-b-most (c .before .before .before .before .args .first) (c .before .before .before .before .args .w) (c .before .before .before .before .args .balance) (c .before .before .before .before .pre .2) (c .before .before .before .before .pre .1)) in
     (omega (arith, a .plus), omega (arith, b .plus), omega (arith, a .minus), omega (arith, b .minus))
 
-factor-of-requires : tie.Need-factor-of-requires
-factor-of-requires c κs = search needs
-
 times-rate-requires : tie.Need-times-rate-requires
 times-rate-requires c κs =
     let s : AtMost 39735000000000 9050000000 (c .before .sum-of .result) =
@@ -66,11 +57,11 @@ pub base-units-spec : {M : Type 1} → statement M
 base-units-spec =
     tie.close
     (tie.spec
-    curve-a-requires
+    (λ c κs. search needs)
     curve-units-requires
-    curve-b-requires
+    (λ c κs. search needs)
     curve-units-requires-2
     sum-of-requires
-    factor-of-requires
+    (λ c κs. search needs)
     times-rate-requires
     returns)

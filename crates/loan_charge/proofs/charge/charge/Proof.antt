@@ -13,12 +13,6 @@ use borrow.Author.Needs.{needs}
 use Rattle.loan_charge.proofs.charge.charge.Statement.{statement}
 use Rattle.loan_charge.proofs.charge.charge.Tie as tie
 
-scaled-value-requires : tie.Need-scaled-value-requires
-scaled-value-requires c κs = search needs
-
-first-set-requires : tie.Need-first-set-requires
-first-set-requires c κs = search needs
-
 base-units-requires : tie.Need-base-units-requires
 base-units-requires c κs = (
   omega (arith, c .before .scaled-value .ensures, held (c .before .before .args .p) (c .before .before .args .q) (c .before .before .pre .0 .divisor-least) .most),
@@ -66,8 +60,8 @@ pub charge-spec : {M : Type 1} → statement M
 charge-spec =
     tie.close
     (tie.spec
-    scaled-value-requires
-    first-set-requires
+    (λ c κs. search needs)
+    (λ c κs. search needs)
     base-units-requires
     rate-units-requires
     with-supplement-requires

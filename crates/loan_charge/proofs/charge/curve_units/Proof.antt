@@ -7,9 +7,6 @@ use borrow.Author.Needs.{needs}
 use Rattle.loan_charge.proofs.charge.curve_units.Statement.{statement}
 use Rattle.loan_charge.proofs.charge.curve_units.Tie as tie
 
-heights-of-requires : tie.Need-heights-of-requires
-heights-of-requires c κs = search needs
-
 weighted-by-requires : tie.Need-weighted-by-requires
 weighted-by-requires c κs =
     let small = heights-small (c .before .args .w) (c .before .args .c) in (
@@ -27,4 +24,4 @@ returns c =
     ap (λ (h : Heights). weighted (c .before .before .args .k) (c .before .before .args .c) h) (c .before .heights-of .ensures)
 
 pub curve-units-spec : {M : Type 1} → statement M
-curve-units-spec = tie.close (tie.spec heights-of-requires weighted-by-requires returns)
+curve-units-spec = tie.close (tie.spec (λ c κs. search needs) weighted-by-requires returns)

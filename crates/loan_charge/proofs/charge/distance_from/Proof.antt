@@ -3,15 +3,6 @@ use borrow.Author.Needs.{needs}
 use Rattle.loan_charge.proofs.charge.distance_from.Statement.{statement}
 use Rattle.loan_charge.proofs.charge.distance_from.Tie as tie
 
-mul-c : tie.Need-mul-c
-mul-c c = search needs
-
-sub-result : tie.Need-sub-result
-sub-result c = search needs
-
-sub-result-2 : tie.Need-sub-result-2
-sub-result-2 c = search needs
-
 returns : tie.Need-returns
 unfolding distance
 returns c = search needs
@@ -21,4 +12,4 @@ unfolding distance
 returns-2 c = search needs
 
 pub distance-from-spec : {M : Type 1} → statement M
-distance-from-spec = tie.close (tie.spec mul-c sub-result sub-result-2 returns returns-2)
+distance-from-spec = tie.close (tie.spec (λ c. search needs) (λ c. search needs) (λ c. search needs) returns returns-2)

@@ -9,9 +9,6 @@ use borrow.Author.Needs.{needs}
 use Rattle.loan_charge.proofs.charge.exponent_of.Statement.{statement}
 use Rattle.loan_charge.proofs.charge.exponent_of.Tie as tie
 
-deviations-from-requires : tie.Need-deviations-from-requires
-deviations-from-requires c κs = search needs
-
 scaled-product-requires : tie.Need-scaled-product-requires
 scaled-product-requires c κs =
     let h = deviations-bound (c .before .args .w) (c .before .args .mean) (c .before .args .deviation) (c .before .pre .0) (c .before .pre .1) (c .before .pre .2) in
@@ -23,4 +20,4 @@ returns c =
     ap (λ (t : ℕ). t / 8) (c .scaled-product .ensures ∙ ap (λ (t : ℕ). scaledProduct t t) (c .before .deviations-from .ensures))
 
 pub exponent-of-spec : {M : Type 1} → statement M
-exponent-of-spec = tie.close (tie.spec deviations-from-requires scaled-product-requires returns)
+exponent-of-spec = tie.close (tie.spec (λ c κs. search needs) scaled-product-requires returns)

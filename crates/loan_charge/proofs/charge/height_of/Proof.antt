@@ -5,15 +5,9 @@ use borrow.Author.Needs.{needs}
 use Rattle.loan_charge.proofs.charge.height_of.Statement.{statement}
 use Rattle.loan_charge.proofs.charge.height_of.Tie as tie
 
-exponent-of-requires : tie.Need-exponent-of-requires
-exponent-of-requires c κs = search needs
-
-exp-upper-requires : tie.Need-exp-upper-requires
-exp-upper-requires c κs = search needs
-
 returns : tie.Need-returns
 unfolding height
 returns c = c .exp-upper .ensures ∙ ap expUpper (c .before .exponent-of .ensures)
 
 pub height-of-spec : {M : Type 1} → statement M
-height-of-spec = tie.close (tie.spec exponent-of-requires exp-upper-requires returns)
+height-of-spec = tie.close (tie.spec (λ c κs. search needs) (λ c κs. search needs) returns)

@@ -4,15 +4,9 @@ use borrow.Author.Needs.{needs}
 use Rattle.loan_charge.proofs.charge.heights_of.Statement.{statement}
 use Rattle.loan_charge.proofs.charge.heights_of.Tie as tie
 
-height-of-requires : tie.Need-height-of-requires
-height-of-requires c κs = search needs
-
-height-of-requires-2 : tie.Need-height-of-requires-2
-height-of-requires-2 c κs = search needs
-
 returns : tie.Need-returns
 unfolding heights
 returns c = two-heights (c .before .height-of .ensures) (c .height-of2 .ensures)
 
 pub heights-of-spec : {M : Type 1} → statement M
-heights-of-spec = tie.close (tie.spec height-of-requires height-of-requires-2 returns)
+heights-of-spec = tie.close (tie.spec (λ c κs. search needs) (λ c κs. search needs) returns)

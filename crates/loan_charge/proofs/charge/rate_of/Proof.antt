@@ -5,21 +5,6 @@ use borrow.Author.Needs.{needs}
 use Rattle.loan_charge.proofs.charge.rate_of.Statement.{statement}
 use Rattle.loan_charge.proofs.charge.rate_of.Tie as tie
 
-mul-smaller : tie.Need-mul-smaller
-mul-smaller c = search needs
-
-sub-smaller : tie.Need-sub-smaller
-sub-smaller c = search needs
-
-add-smaller : tie.Need-add-smaller
-add-smaller c = search needs
-
-smaller-requires : tie.Need-smaller-requires
-smaller-requires c κs = search needs
-
-mul-result : tie.Need-mul-result
-mul-result c = search needs
-
 mul-result-2 : tie.Need-mul-result-2
 mul-result-2 c = omega (arith, mul-le-mul (c .before .pre .3) (c .before .pre .4))
 
@@ -34,11 +19,11 @@ pub rate-of-spec : {M : Type 1} → statement M
 rate-of-spec =
     tie.close
     (tie.spec
-    mul-smaller
-    sub-smaller
-    add-smaller
-    smaller-requires
-    mul-result
+    (λ c. search needs)
+    (λ c. search needs)
+    (λ c. search needs)
+    (λ c κs. search needs)
+    (λ c. search needs)
     mul-result-2
     add-result
     returns)

@@ -9,18 +9,6 @@ use borrow.Author.Needs.{needs}
 use Rattle.loan_charge.proofs.charge.rate_units.Statement.{statement}
 use Rattle.loan_charge.proofs.charge.rate_units.Tie as tie
 
-mul-exp-upper : tie.Need-mul-exp-upper
-mul-exp-upper c = search needs
-
-exp-upper-requires : tie.Need-exp-upper-requires
-exp-upper-requires c κs = search needs
-
-rate-c-requires : tie.Need-rate-c-requires
-rate-c-requires c κs = search needs
-
-rate-b-requires : tie.Need-rate-b-requires
-rate-b-requires c κs = search needs
-
 rate-of-requires : tie.Need-rate-of-requires
 rate-of-requires c κs = (
   c .before .before .before .pre .0,
@@ -40,9 +28,9 @@ pub rate-units-spec : {M : Type 1} → statement M
 rate-units-spec =
     tie.close
     (tie.spec
-    mul-exp-upper
-    exp-upper-requires
-    rate-c-requires
-    rate-b-requires
+    (λ c. search needs)
+    (λ c κs. search needs)
+    (λ c κs. search needs)
+    (λ c κs. search needs)
     rate-of-requires
     returns)

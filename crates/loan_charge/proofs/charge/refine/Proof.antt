@@ -4,9 +4,6 @@ use borrow.Author.Needs.{needs}
 use Rattle.loan_charge.proofs.charge.refine.Statement.{statement}
 use Rattle.loan_charge.proofs.charge.refine.Tie as tie
 
-division-step-requires : tie.Need-division-step-requires
-division-step-requires c κs = search needs
-
 division-step-requires-2 : tie.Need-division-step-requires-2
 division-step-requires-2 c κs =
     step-fits 300 (step₁ (begun (c .before .args .q) (c .before .args .d) (c .before .pre .1)) (c .division-step .ensures))
@@ -46,7 +43,7 @@ pub refine-spec : {M : Type 1} → statement M
 refine-spec =
     tie.close
     (tie.spec
-    division-step-requires
+    (λ c κs. search needs)
     division-step-requires-2
     division-step-requires-3
     division-step-requires-4

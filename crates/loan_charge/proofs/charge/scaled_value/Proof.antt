@@ -8,17 +8,8 @@ use Rattle.loan_charge.proofs.charge.scaled_value.Tie as tie
 returns : tie.Need-returns
 returns c = value-least (c .before .args .p) (c .before .args .q) (c .if1 .taken)
 
-div-z : tie.Need-div-z
-div-z c = search needs
-
-mul-result : tie.Need-mul-result
-mul-result c = search needs
-
 returns-2 : tie.Need-returns-2
 returns-2 c = value-most (c .before .before .args .p) (c .before .before .args .q) (c .before .before .pre .0) (omega arith) (c .if2 .taken)
-
-rem-t6 : tie.Need-rem-t6
-rem-t6 c = search needs
 
 refine-short-requires : tie.Need-refine-short-requires
 refine-short-requires c κs = (c .before .if2 .left, mod-lt (c .before .before .before .args .p) (c .before .before .before .pre .0), c .if3 .taken)
@@ -37,10 +28,10 @@ scaled-value-spec =
     tie.close
     (tie.spec
     returns
-    div-z
-    mul-result
+    (λ c. search needs)
+    (λ c. search needs)
     returns-2
-    rem-t6
+    (λ c. search needs)
     refine-short-requires
     refine-requires
     returns-3

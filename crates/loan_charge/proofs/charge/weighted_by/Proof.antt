@@ -7,12 +7,6 @@ use borrow.Author.Needs.{needs}
 use Rattle.loan_charge.proofs.charge.weighted_by.Statement.{statement}
 use Rattle.loan_charge.proofs.charge.weighted_by.Tie as tie
 
-weighted-term-requires : tie.Need-weighted-term-requires
-weighted-term-requires c κs = search needs
-
-weighted-term-requires-2 : tie.Need-weighted-term-requires-2
-weighted-term-requires-2 c κs = search needs
-
 add-t6 : tie.Need-add-t6
 add-t6 c =
     omega (
@@ -22,9 +16,6 @@ add-t6 c =
       term-bound (c .before .before .args .k) (c .before .before .args .c .weight1) (c .before .before .args .h .first) (c .before .before .pre .0) (c .before .before .pre .1) (c .before .before .pre .4),
       term-bound (c .before .before .args .k) (c .before .before .args .c .plus2) (c .before .before .args .h .second) (c .before .before .pre .0) (omega arith) (c .before .before .pre .5),
     )
-
-weighted-term-requires-3 : tie.Need-weighted-term-requires-3
-weighted-term-requires-3 c κs = search needs
 
 returns : tie.Need-returns
 unfolding weighted
@@ -37,8 +28,8 @@ pub weighted-by-spec : {M : Type 1} → statement M
 weighted-by-spec =
     tie.close
     (tie.spec
-    weighted-term-requires
-    weighted-term-requires-2
+    (λ c κs. search needs)
+    (λ c κs. search needs)
     add-t6
-    weighted-term-requires-3
+    (λ c κs. search needs)
     returns)

@@ -10,8 +10,5 @@ mul-scaled-product c = omega (arith, mul-le-mul (c .pre .0) (c .pre .1))
 scaled-product-requires : tie.Need-scaled-product-requires
 scaled-product-requires c κs = (omega (arith, mul-le-mul (c .pre .0) (c .pre .1)), omega arith)
 
-returns : tie.Need-returns
-returns c = search needs
-
 pub weighted-term-spec : {M : Type 1} → statement M
-weighted-term-spec = tie.close (tie.spec mul-scaled-product scaled-product-requires returns)
+weighted-term-spec = tie.close (tie.spec mul-scaled-product scaled-product-requires (λ c. search needs))

@@ -10,9 +10,6 @@ use borrow.Author.Needs.{needs}
 use Rattle.loan_charge.proofs.charge.with_supplement.Statement.{statement}
 use Rattle.loan_charge.proofs.charge.with_supplement.Tie as tie
 
-times-rate-requires : tie.Need-times-rate-requires
-times-rate-requires c κs = search needs
-
 rounded-up-requires : tie.Need-rounded-up-requires
 rounded-up-requires c κs =
     let s : AtMost 238410000000000 54300000000 (c .times-rate .result) =
@@ -36,4 +33,4 @@ returns c =
 
 pub with-supplement-spec : {M : Type 1} → statement M
 with-supplement-spec =
-    tie.close (tie.spec times-rate-requires rounded-up-requires rounded-down-requires returns)
+    tie.close (tie.spec (λ c κs. search needs) rounded-up-requires rounded-down-requires returns)

@@ -5,9 +5,6 @@ use borrow.Author.Needs.{needs}
 use Rattle.loan_charge.proofs.charge.without_offset.Statement.{statement}
 use Rattle.loan_charge.proofs.charge.without_offset.Tie as tie
 
-sub-t4 : tie.Need-sub-t4
-sub-t4 c = search needs
-
 returns : tie.Need-returns
 unfolding signed
 returns c = amounts (omega arith) (omega arith)
@@ -17,4 +14,4 @@ unfolding signed
 returns-2 c = amounts (omega arith) (omega arith)
 
 pub without-offset-spec : {M : Type 1} → statement M
-without-offset-spec = tie.close (tie.spec sub-t4 returns returns-2)
+without-offset-spec = tie.close (tie.spec (λ c. search needs) returns returns-2)

@@ -5,12 +5,9 @@ use borrow.Author.Needs.{needs}
 use Rattle.loan_charge.proofs.charge.without_supplement.Statement.{statement}
 use Rattle.loan_charge.proofs.charge.without_supplement.Tie as tie
 
-rounded-up-requires : tie.Need-rounded-up-requires
-rounded-up-requires c κs = search needs
-
 returns : tie.Need-returns
 unfolding chargeFrom
 returns c = numbers (c .rounded-up .ensures) refl
 
 pub without-supplement-spec : {M : Type 1} → statement M
-without-supplement-spec = tie.close (tie.spec rounded-up-requires returns)
+without-supplement-spec = tie.close (tie.spec (λ c κs. search needs) returns)

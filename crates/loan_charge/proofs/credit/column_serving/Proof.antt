@@ -5,9 +5,6 @@ use borrow.Author.Needs.{needs}
 use Rattle.loan_charge.proofs.credit.column_serving.Statement.{statement}
 use Rattle.loan_charge.proofs.credit.column_serving.Tie as tie
 
-column-requires : tie.Need-column-requires
-column-requires c κs = search needs
-
 returns : tie.Need-returns
 unfolding columnServing
 returns c = (cc, omega arith)
@@ -17,4 +14,4 @@ unfolding columnServing
 returns-2 c = (cc, omega arith)
 
 pub column-serving-spec : {M : Type 1} → statement M
-column-serving-spec = tie.close (tie.spec column-requires returns returns-2)
+column-serving-spec = tie.close (tie.spec (λ c κs. search needs) returns returns-2)

@@ -4,18 +4,6 @@ use borrow.Author.Needs.{needs}
 use Rattle.loan_charge.proofs.credit.credit_factor.Statement.{statement}
 use Rattle.loan_charge.proofs.credit.credit_factor.Tie as tie
 
-enum-known-score : tie.Need-enum-known-score
-enum-known-score c = search needs
-
-scored-factor-requires : tie.Need-scored-factor-requires
-scored-factor-requires c κs = search needs
-
-enum-told : tie.Need-enum-told
-enum-told c = search needs
-
-unscored-factor-requires : tie.Need-unscored-factor-requires
-unscored-factor-requires c κs = search needs
-
 returns : tie.Need-returns
 unfolding creditFactor
 returns c = rw (c .before .before .score .given .1) (c .scored-factor .ensures)
@@ -28,9 +16,9 @@ pub credit-factor-spec : {M : Type 1} → statement M
 credit-factor-spec =
     tie.close
     (tie.spec
-    enum-known-score
-    scored-factor-requires
-    enum-told
-    unscored-factor-requires
+    (λ c. search needs)
+    (λ c κs. search needs)
+    (λ c. search needs)
+    (λ c κs. search needs)
     returns
     returns-2)
