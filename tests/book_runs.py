@@ -4,12 +4,14 @@
 Refusals are compared exactly; the two sums of the loans' numbers lie in the range that the reference allows; every other
 line follows exactly from them; the required amount keeps to its two bounds. A book that is not refused is held to two
 more: its lines in another order print the same bytes, and its two sums are those of the numbers that each of its loans
-has alone, in a book of its own.
+has alone, in a book of its own. Besides, the program is run once with an input that goes on after a refusal, once with a read
+and once with a write that fails.
 """
 import argparse
 import itertools
 import random
 import re
+import socket
 import subprocess
 import sys
 from fractions import Fraction
@@ -270,6 +272,28 @@ def stopped(program):
     return problem(book.run(data), printed), data, printed
 
 
+def broken_read(program):
+    """What came out where a read fails after a whole book: it is not taken for the end, and nothing is printed."""
+    data = HEADER + OTHER_KINDS
+    ours, theirs = socket.socketpair()
+    with ours, theirs:
+        ours.send(data)
+        theirs.send(b"x")
+        ours.close()  # with a byte unread: the other side reads the data, then gets an error
+        done = subprocess.run([program], stdin=theirs, stdout=subprocess.PIPE, stderr=subprocess.PIPE, check=False)
+    wrong = None if done.stdout == b"" and b"reading" in done.stderr else f"a failed read: {done.stderr!r} on standard error"
+    return wrong, data, done.stdout
+
+
+def broken_write(program):
+    """What came out where the report cannot be written: it is said on standard error."""
+    data = HEADER + OTHER_KINDS
+    with open("/dev/full", "wb") as full:
+        done = subprocess.run([program], input=data, stdout=full, stderr=subprocess.PIPE, check=False)
+    wrong = None if b"writing" in done.stderr else f"a failed write: {done.stderr!r} on standard error"
+    return wrong, data, b""
+
+
 def results(run, seed, count):
     """What came out of so many generated books, half of them damaged."""
     source = random.Random(seed)
@@ -293,7 +317,8 @@ def main():
         tried = given_results(run, [options.book.read_bytes()])
     else:
         generated_books = results(run, options.seed, options.count)
-        tried = itertools.chain([stopped(options.program)], given_results(run, FIXED), generated_books)
+        single = [check(options.program) for check in (stopped, broken_read, broken_write)]
+        tried = itertools.chain(single, given_results(run, FIXED), generated_books)
     passed = failed = 0
     for result in tried:
         if result[0] is None:
