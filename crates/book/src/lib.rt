@@ -13,8 +13,6 @@ ghost use Rattle.book_model.specs.Ranges.{Ranged, LoanRanges};
 ghost use Rattle.book_model.specs.Share.{loanShare, unscoredCount};
 ghost use Rattle.book_model.specs.Terms.{termsWith};
 
-mod shares; // what a line adds to the sums
-
 use book_model::Book;
 use book_model::Closed;
 use book_model::Fed;

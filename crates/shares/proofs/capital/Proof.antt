@@ -1,7 +1,7 @@
 use mathlib.Core.Path.{refl}
 use borrow.Author.Needs.{needs}
-use Rattle.book.proofs.shares.capital.Statement.{statement}
-use Rattle.book.proofs.shares.capital.Tie as tie
+use Rattle.shares.proofs.capital.Statement.{statement}
+use Rattle.shares.proofs.capital.Tie as tie
 
 returns : tie.Need-returns
 returns c = rw (c .other .ensures, c .before .before .no-money .ensures, c .before .no-money2 .ensures) refl

@@ -1,8 +1,8 @@
 use Rattle.book_model.specs.Share.{amountShare}
 use mathlib.Core.Path.{refl}
 use borrow.Author.Needs.{needs}
-use Rattle.book.proofs.shares.amount.Statement.{statement}
-use Rattle.book.proofs.shares.amount.Tie as tie
+use Rattle.shares.proofs.amount.Statement.{statement}
+use Rattle.shares.proofs.amount.Tie as tie
 
 returns : tie.Need-returns
 unfolding amountShare

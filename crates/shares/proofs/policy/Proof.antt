@@ -1,8 +1,8 @@
 use mathlib.Core.Path.{refl}
 use Rattle.book_model.specs.Share.{policyShare}
 use borrow.Author.Needs.{needs}
-use Rattle.book.proofs.shares.policy.Statement.{statement}
-use Rattle.book.proofs.shares.policy.Tie as tie
+use Rattle.shares.proofs.policy.Statement.{statement}
+use Rattle.shares.proofs.policy.Tie as tie
 
 returns : tie.Need-returns
 unfolding policyShare

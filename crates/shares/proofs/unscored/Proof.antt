@@ -1,8 +1,8 @@
 use mathlib.Core.Path.{refl}
 use Rattle.book_model.specs.Share.{unscoredCount}
 use borrow.Author.Needs.{needs}
-use Rattle.book.proofs.shares.unscored.Statement.{statement}
-use Rattle.book.proofs.shares.unscored.Tie as tie
+use Rattle.shares.proofs.unscored.Statement.{statement}
+use Rattle.shares.proofs.unscored.Tie as tie
 
 returns : tie.Need-returns
 unfolding unscoredCount

@@ -1,8 +1,8 @@
 use mathlib.Core.Path.{refl}
 use Rattle.book_model.specs.Share.{derivativeShare}
 use borrow.Author.Needs.{needs}
-use Rattle.book.proofs.shares.derivative.Statement.{statement}
-use Rattle.book.proofs.shares.derivative.Tie as tie
+use Rattle.shares.proofs.derivative.Statement.{statement}
+use Rattle.shares.proofs.derivative.Tie as tie
 
 returns : tie.Need-returns
 unfolding derivativeShare

@@ -4,8 +4,8 @@ use Rattle.book_model.proofs.Required.{good-terms}
 use Rattle.book_model.specs.Share.{loanNumbers}
 use Rattle.book_model.specs.Share.{loanShare}
 use borrow.Author.Needs.{needs}
-use Rattle.book.proofs.shares.loan.Statement.{statement}
-use Rattle.book.proofs.shares.loan.Tie as tie
+use Rattle.shares.proofs.loan.Statement.{statement}
+use Rattle.shares.proofs.loan.Tie as tie
 
 charge-requires : tie.Need-charge-requires
 charge-requires c κs =

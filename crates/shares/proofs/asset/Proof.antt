@@ -1,8 +1,8 @@
 use mathlib.Core.Path.{refl}
 use Rattle.book_model.specs.Share.{assetShare}
 use borrow.Author.Needs.{needs}
-use Rattle.book.proofs.shares.asset.Statement.{statement}
-use Rattle.book.proofs.shares.asset.Tie as tie
+use Rattle.shares.proofs.asset.Statement.{statement}
+use Rattle.shares.proofs.asset.Tie as tie
 
 returns : tie.Need-returns
 unfolding assetShare

@@ -1,7 +1,7 @@
 use mathlib.Core.Path.{refl}
 use borrow.Author.Needs.{needs}
-use Rattle.book.proofs.shares.other.Statement.{statement}
-use Rattle.book.proofs.shares.other.Tie as tie
+use Rattle.shares.proofs.other.Statement.{statement}
+use Rattle.shares.proofs.other.Tie as tie
 
 returns : tie.Need-returns
 returns c = rw (c .before .no-amount .ensures, c .no-amount2 .ensures) refl

@@ -1,7 +1,7 @@
 use mathlib.Core.Path.{refl}
 use borrow.Author.Needs.{needs}
-use Rattle.book.proofs.shares.rest.Statement.{statement}
-use Rattle.book.proofs.shares.rest.Tie as tie
+use Rattle.shares.proofs.rest.Statement.{statement}
+use Rattle.shares.proofs.rest.Tie as tie
 
 returns : tie.Need-returns
 returns c =

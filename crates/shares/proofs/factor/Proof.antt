@@ -1,8 +1,8 @@
 use mathlib.Core.Path.{refl}
 use Rattle.book_model.specs.Terms.{factorFor}
 use borrow.Author.Needs.{needs}
-use Rattle.book.proofs.shares.factor.Statement.{statement}
-use Rattle.book.proofs.shares.factor.Tie as tie
+use Rattle.shares.proofs.factor.Statement.{statement}
+use Rattle.shares.proofs.factor.Tie as tie
 
 returns : tie.Need-returns
 unfolding factorFor

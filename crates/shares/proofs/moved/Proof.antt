@@ -1,7 +1,7 @@
 use mathlib.Core.Path.{refl}
 use borrow.Author.Needs.{needs}
-use Rattle.book.proofs.shares.moved.Statement.{statement}
-use Rattle.book.proofs.shares.moved.Tie as tie
+use Rattle.shares.proofs.moved.Statement.{statement}
+use Rattle.shares.proofs.moved.Tie as tie
 
 returns : tie.Need-returns
 returns c =
