@@ -12,7 +12,6 @@ ghost use lib.ListN.{length};
 ghost use Rattle.book_model.specs.Ranges.{Ranged, LoanRanges};
 ghost use Rattle.book_model.specs.Share.{loanShare, unscoredCount};
 ghost use Rattle.book_model.specs.Terms.{termsWith};
-
 use book_model::Book;
 use book_model::Closed;
 use book_model::Fed;

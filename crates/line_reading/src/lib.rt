@@ -1,6 +1,4 @@
-// From the bytes of a line to what it holds, and to the refusals that need only the line (01, "A book, line by line").
-mod forms;
-
+// From what a line holds to the line that was read, or to the refusals that need only the line (01, "A book, line by line").
 ghost use mathlib.Core.Path.{_≡_};
 ghost use Rattle.line_forms.specs.Readings.{lineOf, lineFor, headerOf, headerFor};
 use line_forms::Content;
@@ -62,7 +60,7 @@ pub fn read_line(line: &[u8]) -> Line
     if LONGEST < line.len() {
         return Line::Refusal(1);
     }
-    line_for(forms::content(line))
+    line_for(line_contents::content(line))
 }
 
 fn header_for(c: Content) -> HeaderLine
@@ -94,5 +92,5 @@ pub fn read_header(line: &[u8]) -> HeaderLine
     if LONGEST < line.len() {
         return HeaderLine::Refusal(1);
     }
-    header_for(forms::content(line))
+    header_for(line_contents::content(line))
 }

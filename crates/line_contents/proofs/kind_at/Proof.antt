@@ -1,7 +1,7 @@
--- `forms::kind_at` meets its contract.
+-- `kind_at` meets its contract.
 use borrow.Author.Tests.{eq-eqb, ne-eqb}
-use Rattle.line_reading.proofs.forms.kind_at.Statement.{statement}
-use Rattle.line_reading.proofs.forms.kind_at.Tie as tie
+use Rattle.line_contents.proofs.kind_at.Statement.{statement}
+use Rattle.line_contents.proofs.kind_at.Tie as tie
 
 returns : tie.Need-returns
 returns c =

@@ -1,9 +1,9 @@
--- `forms::plain` meets its contract.
+-- `plain` meets its contract.
 use borrow.Author.Needs.{needs}
 use borrow.Author.Tests.{eq-eqb, ne-eqb}
 use Rattle.line_forms.specs.Readings.{plainHeld}
-use Rattle.line_reading.proofs.forms.plain.Statement.{statement}
-use Rattle.line_reading.proofs.forms.plain.Tie as tie
+use Rattle.line_contents.proofs.plain.Statement.{statement}
+use Rattle.line_contents.proofs.plain.Tie as tie
 
 returns : tie.Need-returns
 unfolding plainHeld

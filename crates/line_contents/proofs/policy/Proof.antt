@@ -1,9 +1,9 @@
--- `forms::policy` meets its contract.
+-- `policy` meets its contract.
 use borrow.Author.Needs.{needs}
 use borrow.Author.Tests.{eq-eqb, ne-eqb}
 use Rattle.line_forms.specs.Readings.{policyHeld}
-use Rattle.line_reading.proofs.forms.policy.Statement.{statement}
-use Rattle.line_reading.proofs.forms.policy.Tie as tie
+use Rattle.line_contents.proofs.policy.Statement.{statement}
+use Rattle.line_contents.proofs.policy.Tie as tie
 
 returns : tie.Need-returns
 unfolding policyHeld

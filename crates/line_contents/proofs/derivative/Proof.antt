@@ -1,9 +1,9 @@
--- `forms::derivative` meets its contract.
+-- `derivative` meets its contract.
 use borrow.Author.Needs.{needs}
 use borrow.Author.Tests.{eq-eqb, ne-eqb}
 use Rattle.line_forms.specs.Readings.{derivativeHeld}
-use Rattle.line_reading.proofs.forms.derivative.Statement.{statement}
-use Rattle.line_reading.proofs.forms.derivative.Tie as tie
+use Rattle.line_contents.proofs.derivative.Statement.{statement}
+use Rattle.line_contents.proofs.derivative.Tie as tie
 
 returns : tie.Need-returns
 unfolding derivativeHeld

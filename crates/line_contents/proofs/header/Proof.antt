@@ -1,12 +1,12 @@
--- `forms::header` meets its contract.
+-- `header` meets its contract.
 use mathlib.Core.Path.{_≡_}
 use borrow.Author.Needs.{needs}
 use borrow.Author.Tests.{eq-eqb, ne-eqb}
 use Rattle.exact.specs.Text.{text}
 use Rattle.line_forms.specs.Bytes.{after}
 use Rattle.line_forms.specs.Readings.{headerHeld}
-use Rattle.line_reading.proofs.forms.header.Statement.{statement}
-use Rattle.line_reading.proofs.forms.header.Tie as tie
+use Rattle.line_contents.proofs.header.Statement.{statement}
+use Rattle.line_contents.proofs.header.Tie as tie
 
 returns : tie.Need-returns
 unfolding headerHeld

@@ -1,9 +1,9 @@
--- `forms::asset` meets its contract.
+-- `asset` meets its contract.
 use borrow.Author.Needs.{needs}
 use borrow.Author.Tests.{eq-eqb, ne-eqb}
 use Rattle.line_forms.specs.Readings.{assetHeld}
-use Rattle.line_reading.proofs.forms.asset.Statement.{statement}
-use Rattle.line_reading.proofs.forms.asset.Tie as tie
+use Rattle.line_contents.proofs.asset.Statement.{statement}
+use Rattle.line_contents.proofs.asset.Tie as tie
 
 returns : tie.Need-returns
 unfolding assetHeld

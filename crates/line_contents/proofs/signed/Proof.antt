@@ -1,9 +1,9 @@
--- `forms::signed` meets its contract.
+-- `signed` meets its contract.
 use borrow.Author.Needs.{needs}
 use borrow.Author.Tests.{eq-eqb, ne-eqb}
 use Rattle.line_forms.specs.Readings.{signedHeld}
-use Rattle.line_reading.proofs.forms.signed.Statement.{statement}
-use Rattle.line_reading.proofs.forms.signed.Tie as tie
+use Rattle.line_contents.proofs.signed.Statement.{statement}
+use Rattle.line_contents.proofs.signed.Tie as tie
 
 returns : tie.Need-returns
 unfolding signedHeld

@@ -1,7 +1,7 @@
--- `forms::class_at` meets its contract.
+-- `class_at` meets its contract.
 use borrow.Author.Tests.{eq-eqb, ne-eqb}
-use Rattle.line_reading.proofs.forms.class_at.Statement.{statement}
-use Rattle.line_reading.proofs.forms.class_at.Tie as tie
+use Rattle.line_contents.proofs.class_at.Statement.{statement}
+use Rattle.line_contents.proofs.class_at.Tie as tie
 
 returns : tie.Need-returns
 returns c =

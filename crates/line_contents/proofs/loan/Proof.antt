@@ -1,9 +1,9 @@
--- `forms::loan` meets its contract.
+-- `loan` meets its contract.
 use borrow.Author.Needs.{needs}
 use borrow.Author.Tests.{eq-eqb, ne-eqb}
 use Rattle.line_forms.specs.Readings.{loanHeld}
-use Rattle.line_reading.proofs.forms.loan.Statement.{statement}
-use Rattle.line_reading.proofs.forms.loan.Tie as tie
+use Rattle.line_contents.proofs.loan.Statement.{statement}
+use Rattle.line_contents.proofs.loan.Tie as tie
 
 returns : tie.Need-returns
 unfolding loanHeld

@@ -1,9 +1,9 @@
--- `forms::amount` meets its contract.
+-- `amount` meets its contract.
 use mathlib.Core.Path.{sym, _∙_}
 use borrow.Author.Needs.{needs}
 use Rattle.line_forms.specs.Readings.{amountHeld}
-use Rattle.line_reading.proofs.forms.amount.Statement.{statement}
-use Rattle.line_reading.proofs.forms.amount.Tie as tie
+use Rattle.line_contents.proofs.amount.Statement.{statement}
+use Rattle.line_contents.proofs.amount.Tie as tie
 
 returns : tie.Need-returns
 unfolding amountHeld

@@ -1,4 +1,4 @@
-// A reader for each form, and which of them a line's name asks for.
+// A reader for each form, and which of them a line's name asks for: from the bytes of a line to the data it holds.
 ghost use mathlib.Core.Path.{_≡_};
 ghost use Rattle.line_forms.specs.Readings.{classAt, kindAt, headerHeld, loanHeld, policyHeld, derivativeHeld, assetHeld, plainHeld, signedHeld, amountHeld, contentOf};
 use fixed_point::Signed;
@@ -14,7 +14,7 @@ use line_forms::Loan;
 use line_forms::Policy;
 use loan_charge::Score;
 
-pub fn header(line: &[u8]) -> Content
+fn header(line: &[u8]) -> Content
     ensures { λ r. ⌜ r ≡ headerHeld (now (line .entry)) ⌝ }
 {
     let loans = line_fields::number_after(line, 0, b"(book (loans ");
@@ -32,7 +32,7 @@ pub fn header(line: &[u8]) -> Content
     Content::NoForm
 }
 
-pub fn loan(line: &[u8]) -> Content
+fn loan(line: &[u8]) -> Content
     ensures { λ r. ⌜ r ≡ loanHeld (now (line .entry)) ⌝ }
 {
     let balance = line_fields::number_after(line, 0, b"(loan (bal ");
@@ -78,7 +78,7 @@ fn class_at(place: u64) -> Class
     Class::Multi
 }
 
-pub fn policy(line: &[u8]) -> Content
+fn policy(line: &[u8]) -> Content
     ensures { λ r. ⌜ r ≡ policyHeld (now (line .entry)) ⌝ }
 {
     let class = line_fields::pair_after(line, 0, b"(policy (class ", b"home", b"multi");
@@ -117,7 +117,7 @@ fn kind_at(place: u64) -> Kind
     Kind::Other
 }
 
-pub fn derivative(line: &[u8]) -> Content
+fn derivative(line: &[u8]) -> Content
     ensures { λ r. ⌜ r ≡ derivativeHeld (now (line .entry)) ⌝ }
 {
     let kind = line_fields::kind_after(line, 0, b"(deriv (kind ");
@@ -140,7 +140,7 @@ pub fn derivative(line: &[u8]) -> Content
     Content::NoForm
 }
 
-pub fn asset(line: &[u8]) -> Content
+fn asset(line: &[u8]) -> Content
     ensures { λ r. ⌜ r ≡ assetHeld (now (line .entry)) ⌝ }
 {
     let amount = line_fields::number_after(line, 0, b"(asset (amount ");

@@ -1,9 +1,9 @@
--- `forms::content` meets its contract.
+-- `content` meets its contract.
 use mathlib.Core.Path.{sym, _∙_}
 use borrow.Author.Needs.{needs}
 use Rattle.line_forms.specs.Readings.{contentOf}
-use Rattle.line_reading.proofs.forms.content.Statement.{statement}
-use Rattle.line_reading.proofs.forms.content.Tie as tie
+use Rattle.line_contents.proofs.content.Statement.{statement}
+use Rattle.line_contents.proofs.content.Tie as tie
 
 returns : tie.Need-returns
 unfolding contentOf
