@@ -1,5 +1,5 @@
-// Lines of decimal numbers, written into a buffer that the caller lends. Each function writes from the buffer's start, tells how many
-// bytes it wrote, and leaves the bytes after them; a line's pieces, and a report's lines, are each written to what remains of the buffer.
+// Lines of decimal numbers, written into a buffer that the caller lends. Each function but `add_line` writes from the buffer's start, tells how
+// many bytes it wrote, and leaves the bytes after them; a line's pieces, and a report's lines, are each written to what remains of the buffer.
 use fixed_point::Signed;
 ghost use mathlib.Core.List.{[], _∷_, _++_};
 ghost use Prim.Native.Nat.{_+_, _≤_};
