@@ -1,3 +1,1 @@
 pub mod Answers
-pub mod Chain
-pub mod Closings

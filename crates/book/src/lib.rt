@@ -1,27 +1,36 @@
 // Opening, feeding and closing a book (document 01, "A book, line by line").
 ghost use mathlib.Core.Path.{_≡_};
 ghost use Prim.Native.Nat.{_≤_};
+ghost use lib.ListN.{length};
 ghost use Rattle.loan_charge.specs.Tables.{exponentials};
 ghost use Rattle.loan_charge.specs.CreditFactor.{builtInRates};
+ghost use Rattle.line_forms.specs.Claims.{heldBy as lineContent};
 ghost use Rattle.figures.specs.Sums.{Bounded, InLimits, plus};
 ghost use Rattle.report.specs.Line.{Written};
-ghost use mathlib.Core.Bool.{false};
-ghost use Rattle.book_model.specs.Accepted.{loanBeyond, otherBeyond};
-ghost use Rattle.book_model.specs.Calls.{zeroHeader, emptyBook, opening, added, feedingLine, feeding, reportOf, closing, closed, Sound, CountsOne};
-ghost use lib.ListN.{length};
+ghost use Rattle.book_model.specs.Accepted.{loanBeyond, loanRefusal, otherRefusal};
+ghost use Rattle.book_model.specs.Calls.{stateAt, openedOf, fedOf, zeroHeader, emptyBook, opening, feedingLine, feeding, reportSize, reportOf, closing, closed, SoundBook, Sound};
+ghost use Rattle.book_model.specs.LineKinds.{another, kindCounts};
 ghost use Rattle.book_model.specs.Ranges.{Ranged, LoanRanges};
-ghost use Rattle.book_model.specs.Share.{loanShare, unscoredCount};
-ghost use Rattle.book_model.specs.Terms.{termsWith};
+ghost use Rattle.book_model.specs.Share.{loanShare};
+ghost use Rattle.book_model.specs.Steps.{answerWith};
+ghost use Rattle.book_model.specs.Terms.{under};
 use book_model::Book;
 use book_model::Closed;
 use book_model::Fed;
 use book_model::Opened;
+use figures::Counts;
 use figures::Sums;
 use line_forms::Header;
 use line_forms::HeaderLine;
 use line_forms::Line;
 use line_forms::Loan;
 use loan_charge::Score;
+
+// At most so many lines of a book are not loans.
+const MOST_OTHER: u64 = 100000;
+
+// A report buffer has at least so many bytes.
+const REPORT_SIZE: usize = 512;
 
 // A book with no line taken.
 fn empty(header: Header) -> Book
@@ -46,8 +55,8 @@ fn zero_header() -> Header
 
 // A header line opens a book.
 pub fn open(line: &[u8]) -> Opened
-    ensures equation { λ r. ⌜ r ≡ opening (now (line .entry)) ⌝ }
-    ensures sound { λ r. ⌜ Sound (r .book) ⌝ }
+    ensures equation { λ r. ⌜ r ≡ openedOf (opening (now (line .entry))) ⌝ }
+    ensures sound { λ r. ⌜ Sound (stateAt (r .book) builtInRates) ⌝ }
 {
     let read = line_reading::read_header(line);
     match read {
@@ -65,7 +74,7 @@ pub fn open(line: &[u8]) -> Opened
 // A book with a line's share added.
 fn with_share(b: Book, share: Sums) -> Fed
     requires { ⌜ Bounded (b .sums) × Bounded share × InLimits (plus (b .sums) share) ⌝ }
-    ensures { λ r. ⌜ r ≡ added false 0 b share ⌝ }
+    ensures { λ r. ⌜ r ≡ answerWith 0 b share ⌝ }
 {
     let header = b.header;
     let before = b.sums;
@@ -74,13 +83,13 @@ fn with_share(b: Book, share: Sums) -> Fed
     Fed { refusal: 0, book }
 }
 
-// A line that is not a loan: at most 100,000 are taken.
+// A line that is not a loan.
 fn add_other(b: Book, share: Sums) -> Fed
-    requires { ⌜ Sound b × Bounded share × CountsOne share ⌝ }
-    ensures { λ r. ⌜ r ≡ added (otherBeyond (b .sums .other)) 8 b share ⌝ }
+    requires { ⌜ SoundBook b × Bounded share × (share .counts ≡ kindCounts another) ⌝ }
+    ensures { λ r. ⌜ r ≡ answerWith (otherRefusal (b .sums .counts)) b share ⌝ }
 {
     let sums = b.sums;
-    if 100000 <= sums.other {
+    if MOST_OTHER <= sums.counts.other {
         return Fed {
             refusal: 8,
             book: b,
@@ -90,20 +99,20 @@ fn add_other(b: Book, share: Sums) -> Fed
 }
 
 // Whether a loan is beyond the header's loans, or one without a score beyond its unscored.
-fn loan_beyond(h: Header, sums: Sums, score: Score) -> bool
-    ensures { λ r. ⌜ r ≡ loanBeyond h (sums .loans) (sums .unscored) score ⌝ }
+fn loan_beyond(h: Header, counts: Counts, score: Score) -> bool
+    ensures { λ r. ⌜ r ≡ loanBeyond h counts score ⌝ }
 {
-    (h.loans <= sums.loans) | ((shares::unscored(score) == 1) & (h.unscored <= sums.unscored))
+    (h.loans <= counts.loans) | ((shares::unscored(score) == 1) & (h.unscored <= counts.unscored))
 }
 
 fn add_loan(b: Book, exps: &[u64; 1537], rates: &[u64; 66], l: Loan) -> Fed
-    requires { ⌜ Sound b × LoanRanges l × (now exps ≡ exponentials) × (now rates ≡ builtInRates) ⌝ }
-    ensures { λ r. ⌜ r ≡ added (loanBeyond (b .header) (b .sums .loans) (b .sums .unscored) (l .score)) 5 b (loanShare (termsWith (b .header)) l) ⌝ }
+    requires { ⌜ Sound (stateAt b (now rates)) × LoanRanges l × (now exps ≡ exponentials) ⌝ }
+    ensures { λ r. ⌜ r ≡ answerWith (loanRefusal (b .header) (b .sums .counts) (l .score)) b (loanShare (under (b .header) (now (rates .entry))) l) ⌝ }
 {
     let header = b.header;
     let sums = b.sums;
     let score = l.score;
-    if loan_beyond(header, sums, score) {
+    if loan_beyond(header, sums.counts, score) {
         return Fed {
             refusal: 5,
             book: b,
@@ -114,8 +123,8 @@ fn add_loan(b: Book, exps: &[u64; 1537], rates: &[u64; 66], l: Loan) -> Fed
 
 // A line that was read.
 fn feed_line(b: Book, exps: &[u64; 1537], rates: &[u64; 66], line: Line) -> Fed
-    requires { ⌜ Sound b × Ranged line × (now exps ≡ exponentials) × (now rates ≡ builtInRates) ⌝ }
-    ensures { λ r. ⌜ r ≡ feedingLine b line ⌝ }
+    requires { ⌜ Sound (stateAt b (now rates)) × Ranged (lineContent line) × (now exps ≡ exponentials) ⌝ }
+    ensures { λ r. ⌜ r ≡ fedOf (feedingLine (stateAt b (now (rates .entry))) line) ⌝ }
 {
     match line {
         Line::Loan(l) => add_loan(b, exps, rates, l),
@@ -136,9 +145,9 @@ fn feed_line(b: Book, exps: &[u64; 1537], rates: &[u64; 66], line: Line) -> Fed
 
 // A line is fed to a book, with both tables lent: for loops, since a constant array would be stored whole at every use.
 pub fn feed_with(b: Book, exps: &[u64; 1537], rates: &[u64; 66], line: &[u8]) -> Fed
-    requires { ⌜ Sound b × (now exps ≡ exponentials) × (now rates ≡ builtInRates) ⌝ }
-    ensures equation { λ r. ⌜ r ≡ feeding b (now (line .entry)) ⌝ }
-    ensures sound { λ r. ⌜ Sound (r .book) ⌝ }
+    requires { ⌜ Sound (stateAt b (now rates)) × (now exps ≡ exponentials) ⌝ }
+    ensures equation { λ r. ⌜ r ≡ fedOf (feeding (stateAt b (now (rates .entry))) (now (line .entry))) ⌝ }
+    ensures sound { λ r. ⌜ Sound (stateAt (r .book) (now (rates .entry))) ⌝ }
 {
     let read = line_reading::read_line(line);
     let Line::Refusal(refusal) = read else {
@@ -147,11 +156,11 @@ pub fn feed_with(b: Book, exps: &[u64; 1537], rates: &[u64; 66], line: &[u8]) ->
     Fed { refusal, book: b }
 }
 
-// A line is fed to a book.
+// A line is fed to a book that is opened under the regulator's table.
 pub fn feed(b: Book, line: &[u8]) -> Fed
-    requires { ⌜ Sound b ⌝ }
-    ensures equation { λ r. ⌜ r ≡ feeding b (now (line .entry)) ⌝ }
-    ensures sound { λ r. ⌜ Sound (r .book) ⌝ }
+    requires { ⌜ Sound (stateAt b builtInRates) ⌝ }
+    ensures equation { λ r. ⌜ r ≡ fedOf (feeding (stateAt b builtInRates) (now (line .entry))) ⌝ }
+    ensures sound { λ r. ⌜ Sound (stateAt (r .book) builtInRates) ⌝ }
 {
     let exps = loan_charge::charge::table();
     let rates = loan_charge::credit::rates();
@@ -160,7 +169,7 @@ pub fn feed(b: Book, line: &[u8]) -> Fed
 
 // The report of a book.
 fn put_report(b: Book, out: &mut [u8]) -> usize
-    requires { ⌜ Sound b × (512 ≤ length (now out)) ⌝ }
+    requires { ⌜ SoundBook b × (reportSize ≤ length (now out)) ⌝ }
     ensures { λ r. ⌜ Written (now (out .entry)) (reportOf b) r (now (out .exit)) ⌝ }
 {
     let header = b.header;
@@ -171,19 +180,20 @@ fn put_report(b: Book, out: &mut [u8]) -> usize
 
 // A book is closed: its report is written to the lent buffer.
 pub fn close(b: Book, out: &mut [u8]) -> Closed
-    requires { ⌜ Sound b ⌝ }
+    requires { ⌜ SoundBook b ⌝ }
     ensures equation { λ r. ⌜ r ≡ closing b (length (now (out .entry))) ⌝ }
     ensures bytes { λ r. ⌜ now (out .exit) ≡ closed b (now (out .entry)) ⌝ }
 {
     let header = b.header;
     let sums = b.sums;
-    if (sums.loans < header.loans) | (sums.unscored < header.unscored) {
+    let counts = sums.counts;
+    if (counts.loans < header.loans) | (counts.unscored < header.unscored) {
         return Closed {
             refusal: 6,
             length: 0,
         };
     }
-    if out.len() < 512 {
+    if out.len() < REPORT_SIZE {
         return Closed {
             refusal: 9,
             length: 0,

@@ -1,13 +1,16 @@
 -- Demand 2: each refusal when and only when its condition holds. Assumes nothing.
-use mathlib.Core.Path.{_≡_, refl, sym, ap}
-use mathlib.Core.Bool.{Bool, true, false, true≢false, false≢true}
+use mathlib.Core.Path.{_≡_, refl, sym, ap, _∙_, subst}
+use mathlib.Core.Bool.{Bool, true, false, true≢false, _||_}
 use mathlib.Core.List.{List}
-use mathlib.Core.Logic.{_↔_, _⊎_, ⊎-elim}
-use Prim.Native.Nat.{ℕ}
+use mathlib.Core.Logic.{_↔_, _⊎_, inl, inr, ⊎-elim}
+use Prim.Native.Nat.{ℕ, _+_, _≤_, _<_}
 use native.Mathlib.Omega.{arith}
-use lib.Dec.{ltb}
-use borrow.Author.Tests.{ltb-true, ltb-false, lt-ltb, le-ltb}
+use lib.Dec.{leb}
+use lib.ListN.{length}
+use borrow.Author.Tests.{leb-true, leb-false, le-leb, lt-leb}
 use Rattle.exact.specs.Choice.{pick}
+use Rattle.loan_charge.specs.declared.Score.{Score}
+use Rattle.loan_charge.specs.declared.Score.the-variants.{Scored, Unscored}
 use Rattle.line_forms.specs.declared.Header.{Header}
 use Rattle.line_forms.specs.declared.Loan.{Loan}
 use Rattle.line_forms.specs.declared.Content.{Content}
@@ -17,180 +20,276 @@ use Rattle.line_forms.specs.declared.Line.the-variants.{Loan as LoanLine, Polic
 use Rattle.line_forms.specs.declared.HeaderLine.{HeaderLine}
 use Rattle.line_forms.specs.declared.HeaderLine.the-variants.{Header as HeaderRead, Refusal as HeaderRefusal}
 use Rattle.line_forms.specs.Readings.{lineOf, headerOf}
-use Rattle.line_forms.specs.Claims.{AfterHeader, lineWith, LineReading, HeaderReading}
+use Rattle.line_forms.specs.Claims.{AfterHeader, NoBytes, lineWith, LineReading, HeaderReading}
+use Rattle.line_forms.specs.Contents.{inRange}
 use Rattle.line_forms.proofs.LineLaws.{line-reading}
 use Rattle.line_forms.proofs.HeaderLaws.{header-reading}
-use Rattle.book_model.specs.declared.Opened.{Opened}
-use Rattle.book_model.specs.Accepted.{refusalFor, countOf, isLoan, isUnscored, isOther, loanBeyond, otherBeyond}
-use Rattle.book_model.specs.Calls.{emptyBook, openingFor, wanting}
-use Rattle.book_model.specs.Demand2.{ShowsInRange, OtherForm, OpeningRefusals, beyond, FeedingRefusals, ClosingRefusals, Demand2}
+use Rattle.figures.specs.declared.Counts.{Counts}
+use Rattle.book_model.specs.Accepted.{Accepted, countsIn, mostOther, loanBeyond, refusalFor, refusalOf}
+use Rattle.book_model.specs.Calls.{Answer, emptyState, openingFor, opening, closingRefusal, reportSize}
+use Rattle.book_model.specs.Demand2.{Shows, ShowsInRange, OtherForm, Counted, OpeningAnswer, LoanFits, LoanBeyond, Fits, FeedingAnswer, ClosingAnswer, Demand2}
+use Rattle.book_model.specs.History.{opened, allFed, termsOf, acceptedOf}
+use Rattle.book_model.specs.LineKinds.{LineKind, a-loan, another, refused, contentKind, kindOf, kindCounts, unscoredCount}
+use Rattle.book_model.specs.Terms.{Terms, termsWith}
+use Rattle.book_model.proofs.BoundedShares.{unscored-most}
+use Rattle.book_model.proofs.Closings.{closes-6, closes-9, closes-0}
+use Rattle.book_model.proofs.Demand3.{demand3}
 
--- Closing
+-- Lines
 
-abbrev number : Bool → Bool → ℕ
-number x y = pick x 6 (pick y 9 0)
+other-after : (c : Content) → OtherForm c → AfterHeader c
+other-after (header x) a = a
+other-after (loan l) a = tt
+other-after (policy p) a = tt
+other-after (derivative d) a = tt
+other-after (asset x) a = tt
+other-after (amount x) a = tt
+other-after NoForm a = a
 
-closing-6 : (x y : Bool) → (number x y ≡ 6) ↔ (x ≡ true)
-closing-6 true y = (λ e. refl, λ e. refl)
-closing-6 false true = (λ e. absurd (omega (arith, e)), λ e. absurd (false≢true e))
-closing-6 false false = (λ e. absurd (omega (arith, e)), λ e. absurd (false≢true e))
+other-kind : (c : Content) → OtherForm c → kindOf (lineWith c) ≡ another
+unfolding contentKind
+other-kind (header x) a = absurd a
+other-kind (loan l) a = absurd a
+other-kind (policy p) a = refl
+other-kind (derivative d) a = refl
+other-kind (asset x) a = refl
+other-kind (amount x) a = refl
+other-kind NoForm a = absurd a
 
-closing-9 : (x y : Bool) → (number x y ≡ 9) ↔ ((x ≡ false) × (y ≡ true))
-closing-9 true y = (λ e. absurd (omega (arith, e)), λ e. absurd (true≢false (e .0)))
-closing-9 false true = (λ e. (refl, refl), λ e. refl)
-closing-9 false false = (λ e. absurd (omega (arith, e)), λ e. absurd (false≢true (e .1)))
+-- what a line of a kind shows
+data Shown (s : List ℕ) : LineKind → Type 0 where
+  loan-shown : (l : Loan) → ShowsInRange s (loan l) → Shown s (a-loan (l .score))
+  other-shown : (c : Content) → OtherForm c → ShowsInRange s c → Shown s another
+  refused-shown : (n : ℕ) → lineOf s ≡ Refusal n → Shown s (refused n)
 
-closing-0 : (x y : Bool) → (number x y ≡ 0) ↔ ((x ≡ false) × (y ≡ false))
-closing-0 true y = (λ e. absurd (omega (arith, e)), λ e. absurd (true≢false (e .0)))
-closing-0 false true = (λ e. absurd (omega (arith, e)), λ e. absurd (true≢false (e .1)))
-closing-0 false false = (λ e. (refl, refl), λ e. refl)
+module _ (s : List ℕ) where
+  -- a line read as the data c
+  shows : (c : Content) → AfterHeader c → lineOf s ≡ lineWith c → ShowsInRange s c
+  shows c a e = let k = line-reading s .accepted c a .0 e in record { shows = record { written = k .0; bytes = k .2 }; in-range = k .1 }
 
-pub closings : (h : Header) (loans unscored size : ℕ) → ClosingRefusals h loans unscored size
-closings h loans unscored size =
-    let x : Bool = wanting h loans unscored in
-    let y : Bool = ltb size 512 in
-    record {
-      number-6 = closing-6 x y;
-      number-9 = (λ e. (closing-9 x y .0 e .0, ltb-true size 512 (closing-9 x y .0 e .1)), λ e. closing-9 x y .1 (e .0, lt-ltb size 512 (e .1)));
-      written = (λ e. (closing-0 x y .0 e .0, ltb-false size 512 (closing-0 x y .0 e .1)), λ e. closing-0 x y .1 (e .0, le-ltb size 512 (e .1)));
-    }
+  read : (c : Content) → AfterHeader c → ShowsInRange s c → lineOf s ≡ lineWith c
+  read c a k = line-reading s .accepted c a .1 (k .shows .written, k .in-range, k .shows .bytes)
+
+  kind-shown : Shown s (kindOf (lineOf s))
+  unfolding contentKind
+  kind-shown = go (lineOf s) refl
+    where
+      go : (l : Line) → lineOf s ≡ l → Shown s (kindOf l)
+      go (LoanLine l) e = loan-shown l (shows (loan l) tt e)
+      go (PolicyLine p) e = other-shown (policy p) tt (shows (policy p) tt e)
+      go (DerivativeLine d) e = other-shown (derivative d) tt (shows (derivative d) tt e)
+      go (AssetLine a) e = other-shown (asset a) tt (shows (asset a) tt e)
+      go (AmountLine a) e = other-shown (amount a) tt (shows (amount a) tt e)
+      go (Refusal n) e = refused-shown n e
+
+  loan-kind : (l : Loan) → ShowsInRange s (loan l) → kindOf (lineOf s) ≡ a-loan (l .score)
+  unfolding contentKind
+  loan-kind l k = ap kindOf (read (loan l) tt k)
+
+  other-is : (c : Content) → OtherForm c → ShowsInRange s c → kindOf (lineOf s) ≡ another
+  other-is c o k = ap kindOf (read c (other-after c o) k) ∙ other-kind c o
+
+  refused-kind : (n : ℕ) → lineOf s ≡ Refusal n → kindOf (lineOf s) ≡ refused n
+  unfolding contentKind
+  refused-kind n e = ap kindOf e
+
+-- What a line counts as
+
+unscored-is : (score : Score) → unscoredCount score ≡ 1 → score ≡ Unscored
+unfolding unscoredCount
+unscored-is (Scored number age) e = absurd (omega (arith, e))
+unscored-is Unscored e = refl
+
+counted-loan : (s : List ℕ) (k : LineKind) → Shown s k → kindCounts k .loans ≡ 1 → (l : Loan) × ShowsInRange s (loan l)
+unfolding kindCounts
+counted-loan s k (loan-shown l h) e = (l, h)
+counted-loan s k (other-shown c o h) e = absurd (omega (arith, e))
+counted-loan s k (refused-shown n r) e = absurd (omega (arith, e))
+
+counted-unscored : (s : List ℕ) (k : LineKind) → Shown s k → kindCounts k .unscored ≡ 1 → (l : Loan) × ShowsInRange s (loan l) × (l .score ≡ Unscored)
+unfolding kindCounts
+counted-unscored s k (loan-shown l h) e = (l, h, unscored-is (l .score) e)
+counted-unscored s k (other-shown c o h) e = absurd (omega (arith, e))
+counted-unscored s k (refused-shown n r) e = absurd (omega (arith, e))
+
+counted-other : (s : List ℕ) (k : LineKind) → Shown s k → kindCounts k .other ≡ 1 → (c : Content) × OtherForm c × ShowsInRange s c
+unfolding kindCounts
+counted-other s k (loan-shown l h) e = absurd (omega (arith, e))
+counted-other s k (other-shown c o h) e = (c, o, h)
+counted-other s k (refused-shown n r) e = absurd (omega (arith, e))
+
+counted-once : (k : LineKind) → (kindCounts k .loans + kindCounts k .other ≤ 1) × (kindCounts k .unscored ≤ kindCounts k .loans)
+unfolding kindCounts
+counted-once (a-loan score) = (omega arith, unscored-most score)
+counted-once another = (omega arith, omega arith)
+counted-once (refused n) = (omega arith, omega arith)
+
+pub counted : (s : List ℕ) → Counted s
+unfolding kindCounts unscoredCount
+counted s = record {
+  loans = (counted-loan s (kindOf (lineOf s)) (kind-shown s), λ (l, h). rw (loan-kind s l h) refl);
+  unscored = (counted-unscored s (kindOf (lineOf s)) (kind-shown s), λ (l, h, u). rw (loan-kind s l h, u) refl);
+  other = (counted-other s (kindOf (lineOf s)) (kind-shown s), λ (c, o, h). rw (other-is s c o h) refl);
+  once = counted-once (kindOf (lineOf s)) .0;
+  among-loans = counted-once (kindOf (lineOf s)) .1;
+}
 
 -- Feeding
 
--- a number that is neither 0 nor k is not the refusal of a test
-no-test : (test : Bool) (k n : ℕ) → pick test k 0 ≡ n → (n ≡ 0 → ⊥) → (n ≡ k → ⊥) → ⊥
-no-test true k n e z f = f (sym e)
-no-test false k n e z f = z (sym e)
+-- 5's test in inequalities
+beyond : (h : Header) (c : Counts) (score : Score) → loanBeyond h c score ≡ true → LoanBeyond h c score
+unfolding unscoredCount
+beyond h c (Scored number age) e = go (leb (h .loans) (c .loans)) refl e
+  where
+    go : (x : Bool) → leb (h .loans) (c .loans) ≡ x → (x || false) ≡ true → h .loans ≤ c .loans
+    go true f e = leb-true (h .loans) (c .loans) f
+    go false f e = absurd (true≢false (sym e))
+beyond h c Unscored e = go (leb (h .loans) (c .loans)) refl e
+  where
+    go : (x : Bool) → leb (h .loans) (c .loans) ≡ x → (x || leb (h .unscored) (c .unscored)) ≡ true → (h .loans ≤ c .loans) ⊎ (h .unscored ≤ c .unscored)
+    go true f e = inl (leb-true (h .loans) (c .loans) f)
+    go false f e = inr (leb-true (h .unscored) (c .unscored) e)
 
--- which outcome of a test a number shows
-test-refused : (test : Bool) (k : ℕ) → (k ≡ 0 → ⊥) → pick test k 0 ≡ k → test ≡ true
-test-refused true k z e = refl
-test-refused false k z e = absurd (z (sym e))
+fits : (h : Header) (c : Counts) (score : Score) → loanBeyond h c score ≡ false → LoanFits h c score
+unfolding unscoredCount
+fits h c (Scored number age) e = go (leb (h .loans) (c .loans)) refl e
+  where
+    go : (x : Bool) → leb (h .loans) (c .loans) ≡ x → (x || false) ≡ false → c .loans < h .loans
+    go true f e = absurd (true≢false e)
+    go false f e = leb-false (h .loans) (c .loans) f
+fits h c Unscored e = go (leb (h .loans) (c .loans)) refl e
+  where
+    go : (x : Bool) → leb (h .loans) (c .loans) ≡ x → (x || leb (h .unscored) (c .unscored)) ≡ false → (c .loans < h .loans) × (c .unscored < h .unscored)
+    go true f e = absurd (true≢false e)
+    go false f e = (leb-false (h .loans) (c .loans) f, leb-false (h .unscored) (c .unscored) e)
 
-test-passed : (test : Bool) (k : ℕ) → (k ≡ 0 → ⊥) → pick test k 0 ≡ 0 → test ≡ false
-test-passed true k z e = absurd (z e)
-test-passed false k z e = refl
+-- and the other way round
+or-true : (x y : Bool) → y ≡ true → (x || y) ≡ true
+or-true true y e = refl
+or-true false y e = e
+
+beyond-true : (h : Header) (c : Counts) (score : Score) → LoanBeyond h c score → loanBeyond h c score ≡ true
+unfolding unscoredCount
+beyond-true h c (Scored number age) k = rw (le-leb (h .loans) (c .loans) k) refl
+beyond-true h c Unscored k =
+    ⊎-elim (λ l. rw (le-leb (h .loans) (c .loans) l) refl) (λ u. or-true (leb (h .loans) (c .loans)) (leb (h .unscored) (c .unscored)) (le-leb (h .unscored) (c .unscored) u)) k
+
+fits-false : (h : Header) (c : Counts) (score : Score) → LoanFits h c score → loanBeyond h c score ≡ false
+unfolding unscoredCount
+fits-false h c (Scored number age) k = rw (lt-leb (h .loans) (c .loans) k) refl
+fits-false h c Unscored k = rw (lt-leb (h .loans) (c .loans) (k .0), lt-leb (h .unscored) (c .unscored) (k .1)) refl
+
+-- other data keeps to the limit where there is room
+other-fits : (h : Header) (n : Counts) (c : Content) → OtherForm c → n .other < 100000 → Fits h n c
+other-fits h n (header x) o k = absurd o
+other-fits h n (loan l) o k = absurd o
+other-fits h n (policy p) o k = k
+other-fits h n (derivative d) o k = k
+other-fits h n (asset a) o k = k
+other-fits h n (amount a) o k = k
+other-fits h n NoForm o k = absurd o
+
+-- The rules of feeding, one for each answer.
+data Judged (t : Terms) (n : Counts) (s : List ℕ) : ℕ → Type 0 where
+  by-bytes : (k : ℕ) → lineOf s ≡ Refusal k → Judged t n s k
+  five : (l : Loan) → ShowsInRange s (loan l) → LoanBeyond (t .header) n (l .score) → Judged t n s 5
+  eight : (c : Content) → OtherForm c → ShowsInRange s c → 100000 ≤ n .other → Judged t n s 8
+  fitting : (c : Content) → ShowsInRange s c → Fits (t .header) n c → Judged t n s 0
+
+module _ (t : Terms) (n : Counts) (s : List ℕ) where
+  -- the answer obeys a rule
+  judged-loan : (l : Loan) → ShowsInRange s (loan l) → (b : Bool) → loanBeyond (t .header) n (l .score) ≡ b → Judged t n s (pick b 5 0)
+  judged-loan l h true e = five l h (beyond (t .header) n (l .score) e)
+  judged-loan l h false e = fitting (loan l) h (fits (t .header) n (l .score) e)
+
+  judged-other : (c : Content) → OtherForm c → ShowsInRange s c → (b : Bool) → leb mostOther (n .other) ≡ b → Judged t n s (pick b 8 0)
+  judged-other c o h true e = eight c o h (leb-true mostOther (n .other) e)
+  judged-other c o h false e = fitting c h (other-fits (t .header) n c o (leb-false mostOther (n .other) e))
+
+  judged-kind : (k : LineKind) → Shown s k → Judged t n s (refusalFor t n k)
+  unfolding refusalFor
+  judged-kind k (loan-shown l h) = judged-loan l h (loanBeyond (t .header) n (l .score)) refl
+  judged-kind k (other-shown c o h) = judged-other c o h (leb mostOther (n .other)) refl
+  judged-kind k (refused-shown r e) = by-bytes r e
+
+  -- a rule gives its answer
+  fitting-answer : (c : Content) → ShowsInRange s c → Fits (t .header) n c → refusalFor t n (kindOf (lineOf s)) ≡ 0
+  unfolding refusalFor
+  fitting-answer (header x) h f = absurd f
+  fitting-answer (loan l) h f = rw (loan-kind s l h, fits-false (t .header) n (l .score) f) refl
+  fitting-answer (policy p) h f = rw (other-is s (policy p) tt h, lt-leb mostOther (n .other) f) refl
+  fitting-answer (derivative d) h f = rw (other-is s (derivative d) tt h, lt-leb mostOther (n .other) f) refl
+  fitting-answer (asset a) h f = rw (other-is s (asset a) tt h, lt-leb mostOther (n .other) f) refl
+  fitting-answer (amount a) h f = rw (other-is s (amount a) tt h, lt-leb mostOther (n .other) f) refl
+  fitting-answer NoForm h f = absurd f
+
+  answers : {k : ℕ} → Judged t n s k → refusalFor t n (kindOf (lineOf s)) ≡ k
+  unfolding refusalFor
+  answers (by-bytes k e) = rw (refused-kind s k e) refl
+  answers (five l h b) = rw (loan-kind s l h, beyond-true (t .header) n (l .score) b) refl
+  answers (eight c o h m) = rw (other-is s c o h, le-leb mostOther (n .other) m) refl
+  answers (fitting c h f) = fitting-answer c h f
 
 -- line reading refuses with 1, 2, 7 or 3 alone
-abbrev ByBytes : Line → Type 0
-ByBytes l = (n : ℕ) → l ≡ Refusal n → (n ≡ 1) ⊎ (n ≡ 2) ⊎ (n ≡ 7) ⊎ (n ≡ 3)
+not-by-bytes : (s : List ℕ) (n k : ℕ) → lineOf s ≡ Refusal n → n ≡ k → (k ≡ 1 → ⊥) → (k ≡ 2 → ⊥) → (k ≡ 7 → ⊥) → (k ≡ 3 → ⊥) → ⊥
+not-by-bytes s n k e f a b c d =
+    ⊎-elim (λ (x : n ≡ 1). a (sym f ∙ x)) (⊎-elim (λ (x : n ≡ 2). b (sym f ∙ x)) (⊎-elim (λ (x : n ≡ 7). c (sym f ∙ x)) (λ (x : n ≡ 3). d (sym f ∙ x)))) (line-reading s .numbers n e)
 
-not-by-bytes : (n : ℕ) → (n ≡ 1 → ⊥) → (n ≡ 2 → ⊥) → (n ≡ 7 → ⊥) → (n ≡ 3 → ⊥) → (n ≡ 1) ⊎ (n ≡ 2) ⊎ (n ≡ 7) ⊎ (n ≡ 3) → ⊥
-not-by-bytes n a b c d = ⊎-elim a (⊎-elim b (⊎-elim c d))
-
-module _ (h : Header) (kept : List (List ℕ)) where
-  abbrev asked : Line → ℕ
-  asked l = refusalFor h (countOf isLoan kept) (countOf isUnscored kept) (countOf isOther kept) l
-
+module _ {t : Terms} {n : Counts} {s : List ℕ} where
   -- a number other than 0, 5 and 8 is line reading's
-  by-reading : (l : Line) (n : ℕ) → asked l ≡ n → (n ≡ 0 → ⊥) → (n ≡ 5 → ⊥) → (n ≡ 8 → ⊥) → l ≡ Refusal n
-  unfolding refusalFor
-  by-reading (LoanLine l) n e z f g = absurd (no-test (loanBeyond h (countOf isLoan kept) (countOf isUnscored kept) (l .score)) 5 n e z f)
-  by-reading (PolicyLine p) n e z f g = absurd (no-test (otherBeyond (countOf isOther kept)) 8 n e z g)
-  by-reading (DerivativeLine d) n e z f g = absurd (no-test (otherBeyond (countOf isOther kept)) 8 n e z g)
-  by-reading (AssetLine a) n e z f g = absurd (no-test (otherBeyond (countOf isOther kept)) 8 n e z g)
-  by-reading (AmountLine a) n e z f g = absurd (no-test (otherBeyond (countOf isOther kept)) 8 n e z g)
-  by-reading (Refusal m) n e z f g = ap Refusal e
+  rule-bytes : {k : ℕ} (m : ℕ) → Judged t n s k → k ≡ m → (m ≡ 0 → ⊥) → (m ≡ 5 → ⊥) → (m ≡ 8 → ⊥) → lineOf s ≡ Refusal m
+  rule-bytes m (by-bytes k e) f x y z = e ∙ ap Refusal f
+  rule-bytes m (five l h b) f x y z = absurd (y (sym f))
+  rule-bytes m (eight c o h b) f x y z = absurd (z (sym f))
+  rule-bytes m (fitting c h b) f x y z = absurd (x (sym f))
 
-  -- 5 is given to loans beyond the counts,
-  five : (l : Line) → ByBytes l → asked l ≡ 5 → (x : Loan) × (l ≡ LoanLine x) × (beyond h kept (loan x) ≡ true)
-  unfolding refusalFor
-  five (LoanLine l) b e = (l, refl, test-refused (loanBeyond h (countOf isLoan kept) (countOf isUnscored kept) (l .score)) 5 (λ z. omega (arith, z)) e)
-  five (PolicyLine p) b e = absurd (no-test (otherBeyond (countOf isOther kept)) 8 5 e (λ z. omega (arith, z)) (λ z. omega (arith, z)))
-  five (DerivativeLine d) b e = absurd (no-test (otherBeyond (countOf isOther kept)) 8 5 e (λ z. omega (arith, z)) (λ z. omega (arith, z)))
-  five (AssetLine a) b e = absurd (no-test (otherBeyond (countOf isOther kept)) 8 5 e (λ z. omega (arith, z)) (λ z. omega (arith, z)))
-  five (AmountLine a) b e = absurd (no-test (otherBeyond (countOf isOther kept)) 8 5 e (λ z. omega (arith, z)) (λ z. omega (arith, z)))
-  five (Refusal n) b e = absurd (not-by-bytes n (λ z. omega (arith, e, z)) (λ z. omega (arith, e, z)) (λ z. omega (arith, e, z)) (λ z. omega (arith, e, z)) (b n refl))
+  rule-5 : {k : ℕ} → Judged t n s k → k ≡ 5 → (l : Loan) × ShowsInRange s (loan l) × LoanBeyond (t .header) n (l .score)
+  rule-5 (by-bytes k e) f = absurd (not-by-bytes s k 5 e f (λ z. omega (arith, z)) (λ z. omega (arith, z)) (λ z. omega (arith, z)) (λ z. omega (arith, z)))
+  rule-5 (five l h b) f = (l, h, b)
+  rule-5 (eight c o h b) f = absurd (omega (arith, f))
+  rule-5 (fitting c h b) f = absurd (omega (arith, f))
 
-  -- 8 to other lines beyond the limit,
-  eight : (l : Line) → ByBytes l → asked l ≡ 8 → (c : Content) × OtherForm c × (l ≡ lineWith c) × (beyond h kept c ≡ true)
-  unfolding refusalFor
-  eight (LoanLine l) b e = absurd (no-test (loanBeyond h (countOf isLoan kept) (countOf isUnscored kept) (l .score)) 5 8 e (λ z. omega (arith, z)) (λ z. omega (arith, z)))
-  eight (PolicyLine p) b e = (policy p, tt, refl, test-refused (otherBeyond (countOf isOther kept)) 8 (λ z. omega (arith, z)) e)
-  eight (DerivativeLine d) b e = (derivative d, tt, refl, test-refused (otherBeyond (countOf isOther kept)) 8 (λ z. omega (arith, z)) e)
-  eight (AssetLine a) b e = (asset a, tt, refl, test-refused (otherBeyond (countOf isOther kept)) 8 (λ z. omega (arith, z)) e)
-  eight (AmountLine a) b e = (amount a, tt, refl, test-refused (otherBeyond (countOf isOther kept)) 8 (λ z. omega (arith, z)) e)
-  eight (Refusal n) b e = absurd (not-by-bytes n (λ z. omega (arith, e, z)) (λ z. omega (arith, e, z)) (λ z. omega (arith, e, z)) (λ z. omega (arith, e, z)) (b n refl))
+  rule-8 : {k : ℕ} → Judged t n s k → k ≡ 8 → (c : Content) × OtherForm c × ShowsInRange s c × (100000 ≤ n .other)
+  rule-8 (by-bytes k e) f = absurd (not-by-bytes s k 8 e f (λ z. omega (arith, z)) (λ z. omega (arith, z)) (λ z. omega (arith, z)) (λ z. omega (arith, z)))
+  rule-8 (five l h b) f = absurd (omega (arith, f))
+  rule-8 (eight c o h b) f = (c, o, h, b)
+  rule-8 (fitting c h b) f = absurd (omega (arith, f))
 
-  -- and none to what keeps to both.
-  zero-is : (l : Line) → ByBytes l → asked l ≡ 0 → (c : Content) × AfterHeader c × (l ≡ lineWith c) × (beyond h kept c ≡ false)
-  unfolding refusalFor
-  zero-is (LoanLine l) b e = (loan l, tt, refl, test-passed (loanBeyond h (countOf isLoan kept) (countOf isUnscored kept) (l .score)) 5 (λ z. omega (arith, z)) e)
-  zero-is (PolicyLine p) b e = (policy p, tt, refl, test-passed (otherBeyond (countOf isOther kept)) 8 (λ z. omega (arith, z)) e)
-  zero-is (DerivativeLine d) b e = (derivative d, tt, refl, test-passed (otherBeyond (countOf isOther kept)) 8 (λ z. omega (arith, z)) e)
-  zero-is (AssetLine a) b e = (asset a, tt, refl, test-passed (otherBeyond (countOf isOther kept)) 8 (λ z. omega (arith, z)) e)
-  zero-is (AmountLine a) b e = (amount a, tt, refl, test-passed (otherBeyond (countOf isOther kept)) 8 (λ z. omega (arith, z)) e)
-  zero-is (Refusal n) b e = absurd (not-by-bytes n (λ z. omega (arith, e, z)) (λ z. omega (arith, e, z)) (λ z. omega (arith, e, z)) (λ z. omega (arith, e, z)) (b n refl))
+  rule-0 : {k : ℕ} → Judged t n s k → k ≡ 0 → (c : Content) × ShowsInRange s c × Fits (t .header) n c
+  rule-0 (by-bytes k e) f = absurd (not-by-bytes s k 0 e f (λ z. omega (arith, z)) (λ z. omega (arith, z)) (λ z. omega (arith, z)) (λ z. omega (arith, z)))
+  rule-0 (five l h b) f = absurd (omega (arith, f))
+  rule-0 (eight c o h b) f = absurd (omega (arith, f))
+  rule-0 (fitting c h b) f = (c, h, b)
 
-  -- the other way round
-  passes : (c : Content) → AfterHeader c → beyond h kept c ≡ false → asked (lineWith c) ≡ 0
-  unfolding refusalFor
-  passes (header x) a e = absurd a
-  passes (loan l) a e = rw e refl
-  passes (policy p) a e = rw e refl
-  passes (derivative d) a e = rw e refl
-  passes (asset x) a e = rw e refl
-  passes (amount x) a e = rw e refl
-  passes NoForm a e = absurd a
+pub feeding-answer : (t : Terms) (a : Accepted) (s : List ℕ) → FeedingAnswer t a s (refusalOf t a s)
+feeding-answer t a s =
+    let r : LineReading s = line-reading s in
+    let n : Counts = countsIn (a .kept) in
+    let j : Judged t n s (refusalOf t a s) = judged-kind t n s (kindOf (lineOf s)) (kind-shown s) in
+    record {
+      taken = (λ e. rule-0 j e, λ (c, h, f). answers t n s (fitting c h f));
+      number-1 = (λ e. r .refused1 .0 (rule-bytes 1 j e (λ z. omega (arith, z)) (λ z. omega (arith, z)) (λ z. omega (arith, z))), λ e. answers t n s (by-bytes 1 (r .refused1 .1 e)));
+      number-2 = (λ e. r .refused2 .0 (rule-bytes 2 j e (λ z. omega (arith, z)) (λ z. omega (arith, z)) (λ z. omega (arith, z))), λ e. answers t n s (by-bytes 2 (r .refused2 .1 e)));
+      number-7 = (
+        λ e. let (x, w, y) = r .refused7 .0 (rule-bytes 7 j e (λ z. omega (arith, z)) (λ z. omega (arith, z)) (λ z. omega (arith, z))) in (x, record { written = w; bytes = y }),
+        λ (x, k). answers t n s (by-bytes 7 (r .refused7 .1 (x, k .written, k .bytes))),
+      );
+      number-3 = (
+        λ e. let (c, o, w, i, y) = r .refused3 .0 (rule-bytes 3 j e (λ z. omega (arith, z)) (λ z. omega (arith, z)) (λ z. omega (arith, z))) in (c, o, record { written = w; bytes = y }, i),
+        λ (c, o, k, i). answers t n s (by-bytes 3 (r .refused3 .1 (c, o, k .written, i, k .bytes))),
+      );
+      number-5 = (λ e. rule-5 j e, λ (l, h, b). answers t n s (five l h b));
+      number-8 = (λ e. rule-8 j e, λ (c, o, h, b). answers t n s (eight c o h b));
+    }
 
-  refuses : (c : Content) → OtherForm c → beyond h kept c ≡ true → asked (lineWith c) ≡ 8
-  unfolding refusalFor
-  refuses (header x) a e = absurd a
-  refuses (loan l) a e = absurd a
-  refuses (policy p) a e = rw e refl
-  refuses (derivative d) a e = rw e refl
-  refuses (asset x) a e = rw e refl
-  refuses (amount x) a e = rw e refl
-  refuses NoForm a e = absurd a
+-- Closing
 
-  other-after : (c : Content) → OtherForm c → AfterHeader c
-  other-after (header x) a = a
-  other-after (loan l) a = tt
-  other-after (policy p) a = tt
-  other-after (derivative d) a = tt
-  other-after (asset x) a = tt
-  other-after (amount x) a = tt
-  other-after NoForm a = a
-
-  module _ (s : List ℕ) where
-    reading : LineReading s
-    reading = line-reading s
-
-    -- a line read as the data c
-    shown : (c : Content) → AfterHeader c → lineOf s ≡ lineWith c → ShowsInRange s c
-    shown c a e = let k = line-reading s .accepted c a .0 e in record { shows = record { written = k .0; bytes = k .2 }; in-range = k .1 }
-
-    read : (c : Content) → AfterHeader c → ShowsInRange s c → lineOf s ≡ lineWith c
-    read c a k = line-reading s .accepted c a .1 (k .shows .written, k .in-range, k .shows .bytes)
-
-    pub feedings : FeedingRefusals h kept s
-    unfolding refusalFor
-    feedings =
-        let r : LineReading s = line-reading s in
-        record {
-          taken = (
-            λ e. let (c, a, l, b) = zero-is (lineOf s) (r .numbers) e in (c, a, shown c a l, b),
-            λ (c, a, k, b). rw (read c a k) (passes c a b),
-          );
-          number-1 = (λ e. r .refused1 .0 (by-reading (lineOf s) 1 e (λ z. omega (arith, z)) (λ z. omega (arith, z)) (λ z. omega (arith, z))), λ e. rw (r .refused1 .1 e) refl);
-          number-2 = (λ e. r .refused2 .0 (by-reading (lineOf s) 2 e (λ z. omega (arith, z)) (λ z. omega (arith, z)) (λ z. omega (arith, z))), λ e. rw (r .refused2 .1 e) refl);
-          number-7 = (
-            λ e. let (x, w, y) = r .refused7 .0 (by-reading (lineOf s) 7 e (λ z. omega (arith, z)) (λ z. omega (arith, z)) (λ z. omega (arith, z))) in (x, record { written = w; bytes = y }),
-            λ (x, k). rw (r .refused7 .1 (x, k .written, k .bytes)) refl,
-          );
-          number-3 = (
-            λ e. let (c, a, w, i, y) = r .refused3 .0 (by-reading (lineOf s) 3 e (λ z. omega (arith, z)) (λ z. omega (arith, z)) (λ z. omega (arith, z))) in (c, a, record { written = w; bytes = y }, i),
-            λ (c, a, k, i). rw (r .refused3 .1 (c, a, k .written, i, k .bytes)) refl,
-          );
-          number-5 = (
-            λ e. let (l, m, b) = five (lineOf s) (r .numbers) e in (l, shown (loan l) tt m, b),
-            λ (l, k, b). rw (read (loan l) tt k, b) refl,
-          );
-          number-8 = (
-            λ e. let (c, o, l, b) = eight (lineOf s) (r .numbers) e in (c, o, shown c (other-after c o) l, b),
-            λ (c, o, k, b). rw (read c (other-after c o) k) (refuses c o b),
-          );
-        }
+pub closing-answer : (t : Terms) (a : Accepted) (size : ℕ) → ClosingAnswer reportSize t a size (closingRefusal reportSize (t .header) (countsIn (a .kept)) size)
+closing-answer t a size = record {
+  number-6 = closes-6 reportSize (t .header) (countsIn (a .kept)) size;
+  number-9 = closes-9 reportSize (t .header) (countsIn (a .kept)) size;
+  writes = closes-0 reportSize (t .header) (countsIn (a .kept)) size;
+}
 
 -- Opening
 
@@ -201,17 +300,17 @@ by-header (HeaderRead h) n e z = absurd (z (sym e))
 by-header (HeaderRefusal m) n e z = ap HeaderRefusal e
 
 -- a book opened is that of the header read
-opened-header : (l : HeaderLine) (h : Header) → ((n : ℕ) → l ≡ HeaderRefusal n → n ≡ 0 → ⊥) → openingFor l ≡ record { refusal = 0; book = emptyBook h } → l ≡ HeaderRead h
+opened-header : (l : HeaderLine) (h : Header) → ((n : ℕ) → l ≡ HeaderRefusal n → n ≡ 0 → ⊥) → openingFor l ≡ record { refusal = 0; state = emptyState (termsWith h) } → l ≡ HeaderRead h
 unfolding openingFor
-opened-header (HeaderRead x) h b e = ap HeaderRead (ap (λ (o : Opened). o .book .header) e)
-opened-header (HeaderRefusal n) h b e = absurd (b n refl (ap (λ (o : Opened). o .refusal) e))
+opened-header (HeaderRead x) h b e = ap HeaderRead (ap (λ (o : Answer). o .state .book .header) e)
+opened-header (HeaderRefusal n) h b e = absurd (b n refl (ap (λ (o : Answer). o .refusal) e))
 
 not-zero : (n : ℕ) → (n ≡ 1) ⊎ (n ≡ 2) ⊎ (n ≡ 7) ⊎ (n ≡ 3) ⊎ (n ≡ 4) → n ≡ 0 → ⊥
 not-zero n k z =
     ⊎-elim (λ (e : n ≡ 1). omega (arith, e, z))
     (⊎-elim (λ (e : n ≡ 2). omega (arith, e, z)) (⊎-elim (λ (e : n ≡ 7). omega (arith, e, z)) (⊎-elim (λ (e : n ≡ 3). omega (arith, e, z)) (λ (e : n ≡ 4). omega (arith, e, z))))) k
 
-pub openings : (s : List ℕ) → OpeningRefusals s
+pub openings : (s : List ℕ) → OpeningAnswer s (opening s)
 unfolding openingFor
 openings s =
     let r : HeaderReading s = header-reading s in
@@ -237,4 +336,13 @@ openings s =
     }
 
 pub demand2 : Demand2
-demand2 = record { openings = openings; feedings = feedings; closings = closings }
+demand2 = record {
+  openings = openings;
+  counted = counted;
+  feedings = λ header lines s.
+      let a : Accepted = acceptedOf (allFed (opened header) lines) in
+      rw (demand3 header lines .closes .answers s) (feeding-answer (termsOf (opened header)) a s);
+  closings = λ header lines size.
+      let a : Accepted = acceptedOf (allFed (opened header) lines) in
+      rw (demand3 header lines .closes .refusal size) (closing-answer (termsOf (opened header)) a size);
+}

@@ -4,158 +4,124 @@ use mathlib.Core.Bool.{Bool, true, false}
 use mathlib.Core.List.{List, [], _∷_, _++_, map, append-assoc, List·Permᴰ, List·Permᴰ·nil, List·Permᴰ·cons, List·Permᴰ·swap, List·Permᴰ·trans}
 use mathlib.Core.Logic.{_↔_}
 use Prim.Native.Nat.{ℕ}
+use native.Mathlib.Nat.{sub-zero}
 use native.Mathlib.Omega.{arith}
-use lib.Dec.{eqb, ltb, eqb→eq}
+use lib.Dec.{eqb, eqb→eq}
 use lib.ListN.{length, take, drop, length-append}
 use lib.Seq.{take-at}
 use borrow.Author.Tests.{eq-eqb}
-use Rattle.book_model.specs.declared.Closed.{Closed}
 use Rattle.exact.specs.Choice.{pick}
 use Rattle.exact.specs.Fraction.{whole, _⊕_, _≼_, _≺_}
 use Rattle.exact.specs.Quantity.{Eventually}
 use Rattle.exact.proofs.Quantities.{takes, mapped, some-allowed}
-use Rattle.line_forms.specs.declared.Header.{Header}
+use Rattle.loan_charge.specs.CreditFactor.{RatesInRange}
+use Rattle.loan_charge.proofs.CreditLaws.{built-in}
 use Rattle.line_forms.specs.declared.HeaderLine.{HeaderLine}
 use Rattle.line_forms.specs.declared.HeaderLine.the-variants.{Header as HeaderRead, Refusal as HeaderRefusal}
-use Rattle.line_forms.specs.Readings.{headerOf}
+use Rattle.line_forms.specs.Claims.{heldBy as lineContent}
+use Rattle.line_forms.specs.Readings.{lineOf, headerOf}
+use Rattle.figures.specs.declared.Counts.{Counts}
 use Rattle.figures.specs.declared.Figures.{Figures}
 use Rattle.figures.specs.declared.Sums.{Sums}
-use Rattle.figures.specs.Sums.{sumOf}
 use Rattle.figures.specs.Figures.{figuresFrom, figuresOf}
-use Rattle.report.specs.Line.{onto}
-use Rattle.book_model.specs.declared.Book.{Book}
-use Rattle.book_model.specs.declared.Fed.{Fed}
-use Rattle.book_model.specs.Terms.{Terms, termsWith}
-use Rattle.book_model.specs.Accepted.{isLoan, countOf, refusalOf, accept}
-use Rattle.book_model.specs.Exact.{requirement}
-use Rattle.book_model.specs.Calls.{openingFor, opening, wanting, closing, closed, closingRefusal, reportOf}
-use Rattle.book_model.specs.History.{History, opened, fed, headerIn, along, termsOf, acceptedOf, standing, sumsOf, bookOf}
-use Rattle.book_model.specs.Share.{share}
-use Rattle.line_forms.specs.Readings.{lineOf}
+use Rattle.figures.specs.Sums.{sumOf}
 use Rattle.figures.proofs.SumsLaws.{sum-permuted}
 use Rattle.report.specs.Decimal.{digits, signed}
+use Rattle.report.specs.Line.{onto}
 use Rattle.report.proofs.Decimal.{digits-value, signed-positive}
 use Rattle.book_report.specs.Report.{unsigned, valueLine, ratioLine, headText, reportText}
-use Rattle.book_model.specs.Demand3.{figuresFor, reportFor, afterLines, centsPerLoan, allowance, Closes, Measured, SameReports, Demand3}
+use Rattle.book_model.specs.declared.Book.{Book}
+use Rattle.book_model.specs.Accepted.{Accepted, noneAccepted, countsIn, refusalOf, accept}
+use Rattle.book_model.specs.Calls.{State, Answer, openingFor, opening, feeding, closing, closed, closingRefusal, closingWith, reportSize, reportOf}
+use Rattle.book_model.specs.Demand3.{figuresFor, reportFor, afterLines, hundredthsPerLoan, allowance, Closes, Measured, SameReports, Demand3}
+use Rattle.book_model.specs.Exact.{requirement}
+use Rattle.book_model.specs.History.{History, opened, fed, headerIn, allFed, termsOf, acceptedOf, linesTaken, sumsOf}
+use Rattle.book_model.specs.Share.{share}
+use Rattle.book_model.specs.Terms.{Terms, termsWith}
 use Rattle.book_model.proofs.Bounds.{Near}
-use Rattle.book_model.proofs.Required.{good-terms, requiredFor, near, list-exponents}
-use native.Mathlib.Nat.{sub-zero}
-use Rattle.book_model.proofs.Steps.{Counts, counts, step}
+use Rattle.book_model.proofs.Closings.{untouched, writes, tells}
 use Rattle.book_model.proofs.ExactSums.{rest-sum, moved-sum, rounded-is}
+use Rattle.book_model.proofs.Near.{rates-chargeable}
+use Rattle.book_model.proofs.Required.{requiredFor, near, list-exponents}
+use Rattle.book_model.proofs.Steps.{bookOf, stateOf, counts, step}
 
--- The book after a list of lines is the book of the accepted lines.
+-- The state after a list of lines is the state of the accepted lines.
 
-terms-stay : (past : History) (s : List ℕ) → termsOf (fed past s) ≡ termsOf past
-unfolding termsOf
-terms-stay past s = refl
+pub one-more : (past : History) (s : List ℕ) → (termsOf (fed past s) ≡ termsOf past) × (accept (termsOf past) (acceptedOf past) s ≡ acceptedOf (fed past s))
+unfolding termsOf acceptedOf
+one-more past s = (refl, refl)
 
-pub one-more : (past : History) (h : Header) → termsOf past ≡ termsWith h → (s : List ℕ) → accept h (record { kept = standing past }) s .kept ≡ standing (fed past s)
-unfolding acceptedOf
-one-more past h e s = ap (λ (t : Terms). accept (t .header) (acceptedOf past) s .kept) (sym e)
+-- one feeding more
+pub fed-is : (past : History) (s : List ℕ) → feeding (stateOf (termsOf past) (acceptedOf past)) s .state ≡ stateOf (termsOf (fed past s)) (acceptedOf (fed past s))
+unfolding termsOf acceptedOf
+fed-is past s = ap (λ (a : Answer). a .state) (step (termsOf past) (acceptedOf past) s)
 
-pub chain : (past : History) (h : Header) → termsOf past ≡ termsWith h → (lines : List (List ℕ)) → afterLines (bookOf (termsWith h) (standing past)) lines ≡ bookOf (termsWith h) (standing (along past lines))
-unfolding afterLines along
-chain past h e [] = refl
-chain past h e (s ∷ lines) =
-    ap (λ (b : Book). afterLines b lines) (ap (λ (f : Fed). f .book) (step h (standing past) s) ∙ ap (bookOf (termsWith h)) (one-more past h e s))
-    ∙ chain (fed past s) h (terms-stay past s ∙ e) lines
+chain : (past : History) (lines : List (List ℕ)) → afterLines (stateOf (termsOf past) (acceptedOf past)) lines ≡ stateOf (termsOf (allFed past lines)) (acceptedOf (allFed past lines))
+unfolding afterLines allFed
+chain past [] = refl
+chain past (s ∷ lines) = ap (λ (x : State). afterLines x lines) (fed-is past s) ∙ chain (fed past s) lines
 
--- the terms of a list of lines are those of its header
-pub terms-along : (past : History) (lines : List (List ℕ)) → termsOf (along past lines) ≡ termsOf past
-unfolding along
-terms-along past [] = refl
-terms-along past (s ∷ lines) = terms-along (fed past s) lines ∙ terms-stay past s
-
--- the book just opened has no line taken
-pub opened-empty : (header : List ℕ) → opening header .book ≡ bookOf (termsWith (headerIn (headerOf header))) []
-unfolding openingFor headerIn sumsOf sumOf
-opened-empty header = go (headerOf header)
+-- the state just opened has no line taken
+pub opened-is : (header : List ℕ) → opening header .state ≡ stateOf (termsOf (opened header)) (acceptedOf (opened header))
+unfolding openingFor headerIn sumsOf sumOf termsOf acceptedOf
+opened-is header = go (headerOf header)
   where
-    go : (l : HeaderLine) → openingFor l .book ≡ bookOf (termsWith (headerIn l)) []
+    go : (l : HeaderLine) → openingFor l .state ≡ stateOf (termsWith (headerIn l)) noneAccepted
     go (HeaderRead h) = refl
     go (HeaderRefusal n) = refl
 
-terms-opened : (header : List ℕ) → termsOf (opened header) ≡ termsWith (headerIn (headerOf header))
-unfolding termsOf
-terms-opened header = refl
+-- the terms of a list of lines are those of its header
+pub terms-stay : (past : History) (lines : List (List ℕ)) → termsOf (allFed past lines) ≡ termsOf past
+unfolding allFed
+terms-stay past [] = refl
+terms-stay past (s ∷ lines) = terms-stay (fed past s) lines ∙ one-more past s .0
 
-pub none-standing : (header : List ℕ) → standing (opened header) ≡ []
-unfolding acceptedOf
-none-standing header = refl
-
-pub after-is : (header : List ℕ) (lines : List (List ℕ)) → afterLines (opening header .book) lines ≡ bookOf (termsWith (headerIn (headerOf header))) (standing (along (opened header) lines))
+pub after-is : (header : List ℕ) (lines : List (List ℕ)) → afterLines (opening header .state) lines ≡ stateOf (termsOf (opened header)) (acceptedOf (allFed (opened header) lines))
 after-is header lines =
-    ap (λ (b : Book). afterLines b lines) (opened-empty header ∙ ap (bookOf (termsWith (headerIn (headerOf header)))) (sym (none-standing header)))
-    ∙ chain (opened header) (headerIn (headerOf header)) (terms-opened header) lines
+    ap (λ (x : State). afterLines x lines) (opened-is header) ∙ chain (opened header) lines
+    ∙ ap (λ (t : Terms). stateOf t (acceptedOf (allFed (opened header) lines))) (terms-stay (opened header) lines)
+
+-- every history is opened under rates in range
+pub terms-in-range : (past : History) → RatesInRange (termsOf past .rates)
+unfolding termsOf
+terms-in-range (opened header) = built-in
+terms-in-range (fed past line) = terms-in-range past
 
 -- The report
 
 pub report-is : (t : Terms) (kept : List (List ℕ)) → reportOf (bookOf t kept) ≡ reportFor t kept
 unfolding reportFor figuresFor figuresOf
 report-is t kept =
-    ap₂ (λ (rest moved : ℕ). reportText (figuresFrom (t .header .held) rest moved (sumsOf t kept))) (rounded-is (sumsOf t kept .rest) (rest-sum t kept)) (rounded-is (sumsOf t kept .moved) (moved-sum t kept))
-
--- Closing by its tests
-
--- the answer, and the buffer as it is left, where the two tests have these outcomes
-abbrev answer : Bool → Bool → List ℕ → Closed
-answer x y report = pick x (record { refusal = 6; length = 0 }) (pick y (record { refusal = 9; length = 0 }) (record { refusal = 0; length = length report }))
-
-abbrev left : Bool → Bool → List ℕ → List ℕ → List ℕ
-left x y buffer report = pick x buffer (pick y buffer (onto buffer report))
-
-by-tests : (x y : Bool) (report : List ℕ) → answer x y report .refusal ≡ pick x 6 (pick y 9 0)
-by-tests true y report = refl
-by-tests false true report = refl
-by-tests false false report = refl
-
-by-tests-untouched : (x y : Bool) (buffer report : List ℕ) → (answer x y report .refusal ≡ 0 → ⊥) → left x y buffer report ≡ buffer
-by-tests-untouched true y buffer report n = refl
-by-tests-untouched false true buffer report n = refl
-by-tests-untouched false false buffer report n = absurd (n refl)
-
-by-tests-written : (x y : Bool) (buffer report : List ℕ) → answer x y report .refusal ≡ 0 → (left x y buffer report ≡ onto buffer report) × (answer x y report .length ≡ length report)
-by-tests-written true y buffer report e = absurd (omega (arith, e))
-by-tests-written false true buffer report e = absurd (omega (arith, e))
-by-tests-written false false buffer report e = (refl, refl)
-
-module _ (b : Book) where
-  closing-refused : (size : ℕ) → closing b size .refusal ≡ closingRefusal (b .header) (b .sums .loans) (b .sums .unscored) size
-  unfolding closing
-  closing-refused size = by-tests (wanting (b .header) (b .sums .loans) (b .sums .unscored)) (ltb size 512) (reportOf b)
-
-  closing-untouched : (buffer : List ℕ) → (closing b (length buffer) .refusal ≡ 0 → ⊥) → closed b buffer ≡ buffer
-  unfolding closing closed
-  closing-untouched buffer n = by-tests-untouched (wanting (b .header) (b .sums .loans) (b .sums .unscored)) (ltb (length buffer) 512) buffer (reportOf b) n
-
-  closing-written : (buffer : List ℕ) → closing b (length buffer) .refusal ≡ 0 → (closed b buffer ≡ onto buffer (reportOf b)) × (closing b (length buffer) .length ≡ length (reportOf b))
-  unfolding closing closed
-  closing-written buffer e = by-tests-written (wanting (b .header) (b .sums .loans) (b .sums .unscored)) (ltb (length buffer) 512) buffer (reportOf b) e
+    ap₂ (λ (rest moved : ℕ). reportText (figuresFrom (t .header .held) rest moved (sumsOf t kept)))
+    (rounded-is (sumsOf t kept .rest) (rest-sum t kept)) (rounded-is (sumsOf t kept .moved) (moved-sum t kept))
 
 -- A list does not grow by an element and stay the same.
 not-itself : (kept : List (List ℕ)) (s : List ℕ) → kept ≡ kept ++ (s ∷ []) → ⊥
 not-itself kept s e = omega (arith, simp length-append at (ap length e))
 
-grows : (h : Header) (kept : List (List ℕ)) (s : List ℕ) → (refusalOf h kept s ≡ 0) ↔ (accept h (record { kept = kept }) s .kept ≡ kept ++ (s ∷ []))
+grows : (t : Terms) (a : Accepted) (s : List ℕ) → (refusalOf t a s ≡ 0) ↔ (accept t a s .kept ≡ a .kept ++ (s ∷ []))
 unfolding accept
-grows h kept s = (λ e. rw (eq-eqb (refusalOf h kept s) 0 e) refl, λ e. go (eqb (refusalOf h kept s) 0) refl e)
+grows t a s = (λ e. rw (eq-eqb (refusalOf t a s) 0 e) refl, λ e. go (eqb (refusalOf t a s) 0) refl e)
   where
-    go : (test : Bool) → eqb (refusalOf h kept s) 0 ≡ test → pick test (kept ++ (s ∷ [])) kept ≡ kept ++ (s ∷ []) → refusalOf h kept s ≡ 0
-    go true f e = eqb→eq (refusalOf h kept s) 0 (rw f tt)
-    go false f e = absurd (not-itself kept s e)
+    go : (test : Bool) → eqb (refusalOf t a s) 0 ≡ test → pick test (a .kept ++ (s ∷ [])) (a .kept) ≡ a .kept ++ (s ∷ []) → refusalOf t a s ≡ 0
+    go true f e = eqb→eq (refusalOf t a s) 0 (rw f tt)
+    go false f e = absurd (not-itself (a .kept) s e)
 
-pub closes-of : (h : Header) (kept : List (List ℕ)) → Closes (termsWith h) kept (bookOf (termsWith h) kept)
-closes-of h kept =
-    let t : Terms = termsWith h in
-    let b : Book = bookOf (termsWith h) kept in
-    let k : Counts (sumsOf (termsWith h) kept) kept = counts (termsWith h) kept in
+-- the number that closing answers is that of the accepted lines
+pub closing-number : (t : Terms) (kept : List (List ℕ)) (size : ℕ) → closing (bookOf t kept) size .refusal ≡ closingRefusal reportSize (t .header) (countsIn kept) size
+unfolding closingWith
+closing-number t kept size = ap (λ (c : Counts). closingRefusal reportSize (t .header) c size) (counts t kept)
+
+pub closes-of : (t : Terms) (a : Accepted) → Closes t a (stateOf t a)
+closes-of t a =
+    let b : Book = bookOf t (a .kept) in
     record {
-      answers = λ s. ap (λ (f : Fed). f .refusal) (step h kept s);
-      taken = λ s. rw (ap (λ (f : Fed). f .refusal) (step h kept s)) (grows h kept s);
-      refusal = λ buffer. closing-refused b (length buffer) ∙ rw (k .loans, k .unscored) refl;
-      untouched = closing-untouched b;
-      report = λ buffer e. rw (← report-is t kept) (closing-written b buffer e .0);
-      told = λ buffer e. rw (← report-is t kept) (closing-written b buffer e .1);
+      answers = λ s. ap (λ (x : Answer). x .refusal) (step t a s);
+      taken = λ s. rw (ap (λ (x : Answer). x .refusal) (step t a s)) (grows t a s);
+      refusal = λ size. closing-number t (a .kept) size;
+      untouched = λ buffer n. untouched reportSize b (reportOf b) buffer n;
+      report = λ buffer e. rw (← report-is t (a .kept)) (writes reportSize b (reportOf b) buffer e);
+      told = λ size e. rw (← report-is t (a .kept)) (tells reportSize b (reportOf b) size e);
     }
 
 -- The required amount
@@ -182,24 +148,26 @@ eighth f =
 whole-text : (n : ℕ) → signed (unsigned n) ≡ digits n
 whole-text n = signed-positive (unsigned n) (omega arith) ∙ ap digits (sub-zero n)
 
-near-taken : (h : Header) (kept : List (List ℕ)) → Eventually (λ x. Near (requirement (termsWith h) kept .value x) (figuresFor (termsWith h) kept .required) centsPerLoan (countOf isLoan kept))
-near-taken h kept = rw (required-is (termsWith h) kept) at (near centsPerLoan (omega arith) (good-terms h) kept)
+near-taken : (t : Terms) → RatesInRange (t .rates) → (kept : List (List ℕ)) →
+    Eventually (λ x. Near (requirement t kept .value x) (figuresFor t kept .required) hundredthsPerLoan (countsIn kept .loans))
+near-taken t r kept = rw (required-is t kept) at (near hundredthsPerLoan (omega arith) (rates-chargeable t r) kept)
 
-pub measured-of : (h : Header) (kept : List (List ℕ)) → Measured (termsWith h) kept
+pub measured-of : (t : Terms) → RatesInRange (t .rates) → (kept : List (List ℕ)) → Measured t kept
 unfolding reportFor requirement
-measured-of h kept =
-    let t : Terms = termsWith h in
-    let f : Figures = figuresFor (termsWith h) kept in
+measured-of t r kept =
+    let f : Figures = figuresFor t kept in
+    let exponents = list-exponents (rates-chargeable t r) kept in
     record {
       required = f .required;
       before = headText f ++ (valueLine "rest" (unsigned (f .rest)) ++ valueLine "oper" (unsigned (f .oper)));
       after = valueLine "capital" (f .capital) ++ ratioLine (f .ratio);
       line-eight = rw (← whole-text (f .required)) (eighth f);
       read-back = digits-value (f .required);
-      not-below = takes (requirement t kept) (λ v. v ≼ whole (f .required)) (list-exponents (good-terms h) kept) (mapped (λ m n. (n .proper, n .not-below)) (near-taken h kept));
-      close = takes (requirement t kept) (λ v. whole (f .required) ≺ v ⊕ allowance (countOf isLoan kept)) (list-exponents (good-terms h) kept) (mapped (λ m n. (n .proper, n .close)) (near-taken h kept));
-      both = takes (requirement t kept) (λ v. (v ≼ whole (f .required)) × (whole (f .required) ≺ v ⊕ allowance (countOf isLoan kept))) (list-exponents (good-terms h) kept) (mapped (λ m n. (n .proper, (n .not-below, n .close))) (near-taken h kept));
-      orders = some-allowed (requirement t kept .exponents) (list-exponents (good-terms h) kept);
+      not-below = takes (requirement t kept) (λ v. v ≼ whole (f .required)) exponents (mapped (λ m n. (n .proper, n .not-below)) (near-taken t r kept));
+      close = takes (requirement t kept) (λ v. whole (f .required) ≺ v ⊕ allowance (countsIn kept .loans)) exponents (mapped (λ m n. (n .proper, n .close)) (near-taken t r kept));
+      both = takes (requirement t kept) (λ v. (v ≼ whole (f .required)) × (whole (f .required) ≺ v ⊕ allowance (countsIn kept .loans))) exponents
+          (mapped (λ m n. (n .proper, (n .not-below, n .close))) (near-taken t r kept));
+      orders = some-allowed (requirement t kept .exponents) exponents;
     }
 
 -- Order
@@ -212,28 +180,36 @@ permuted-map f (List·Permᴰ·trans p q) = List·Permᴰ·trans (permuted-map f
 
 sums-permuted : (t : Terms) {kept others : List (List ℕ)} → List·Permᴰ kept others → sumsOf t kept ≡ sumsOf t others
 unfolding sumsOf
-sums-permuted t p = sum-permuted (permuted-map (λ s. share t (lineOf s)) p)
+sums-permuted t p = sum-permuted (permuted-map (λ s. share t (lineContent (lineOf s))) p)
 
 -- the bytes written
 taken-text : (buffer text : List ℕ) → take (length text) (onto buffer text) ≡ text
 unfolding onto
 taken-text buffer text = take-at text (drop (length text) buffer) (length text) refl
 
+-- what a closing that is not refused tells and writes
+pub tells-writes : (b : Book) (x : List ℕ) → closing b (length x) .refusal ≡ 0 →
+    (closing b (length x) .length ≡ length (reportOf b)) × (take (closing b (length x) .length) (closed b x) ≡ reportOf b)
+tells-writes b x e =
+    let told = tells reportSize b (reportOf b) (length x) e in
+    (told, ap₂ take told (writes reportSize b (reportOf b) x e) ∙ taken-text x (reportOf b))
+
+-- the report does not depend on the order
+pub report-permuted : (t : Terms) {kept others : List (List ℕ)} → List·Permᴰ kept others → reportOf (bookOf t kept) ≡ reportOf (bookOf t others)
+report-permuted t p = ap (λ (s : Sums). reportOf (record { header = t .header; sums = s })) (sums-permuted t p)
+
 pub same-reports : (t : Terms) {kept others : List (List ℕ)} → List·Permᴰ kept others → SameReports (bookOf t kept) (bookOf t others)
 same-reports t {kept} {others} p x y e f =
-    let w = closing-written (bookOf t kept) x e in
-    let v = closing-written (bookOf t others) y f in
-    let r : reportOf (bookOf t kept) ≡ reportOf (bookOf t others) = ap (λ (s : Sums). reportOf (record { header = t .header; sums = s })) (sums-permuted t p) in (
-      w .1 ∙ ap length r ∙ sym (v .1),
-      ap₂ take (w .1) (w .0) ∙ taken-text x (reportOf (bookOf t kept)) ∙ r ∙ sym (ap₂ take (v .1) (v .0) ∙ taken-text y (reportOf (bookOf t others))),
-    )
+    let w = tells-writes (bookOf t kept) x e in
+    let v = tells-writes (bookOf t others) y f in
+    let r : reportOf (bookOf t kept) ≡ reportOf (bookOf t others) = report-permuted t p in
+    (w .0 ∙ ap length r ∙ sym (v .0), w .1 ∙ r ∙ sym (v .1))
 
 pub demand3 : (header : List ℕ) (lines : List (List ℕ)) → Demand3 header lines
-unfolding termsOf
 demand3 header lines =
-    let h : Header = headerIn (headerOf header) in
+    let t : Terms = termsOf (opened header) in
     record {
-      closes = rw (after-is header lines) (closes-of h (standing (along (opened header) lines)));
-      measured = measured-of h (standing (along (opened header) lines));
-      alike = λ others p. rw (after-is header lines, after-is header others) (same-reports (termsWith h) p);
+      closes = rw (after-is header lines) (closes-of t (acceptedOf (allFed (opened header) lines)));
+      measured = measured-of t (terms-in-range (opened header)) (linesTaken (allFed (opened header) lines));
+      alike = λ others p. rw (after-is header lines, after-is header others) (same-reports t p);
     }

@@ -1,6 +1,8 @@
 -- The twelve examples, by computation. Assumes nothing.
 use mathlib.Core.Path.{_≡_, refl, ap, _∙_}
 use mathlib.Core.List.{map}
+use Prim.Native.Nat.{ℕ, _≤_}
+use native.Mathlib.Omega.{arith}
 use Rattle.exact.specs.Fraction.{ceiling}
 use Rattle.exact.proofs.Examples as exact
 use Rattle.loan_charge.proofs.Examples as loan
@@ -15,20 +17,35 @@ use Rattle.figures.specs.Sums.{sumOf}
 use Rattle.figures.specs.Figures.{requiredOf, admitted, capitalOf, ratioSize, ratioOf}
 use Rattle.report.specs.Decimal.{leading, digits, signed}
 use Rattle.book_model.specs.Share.{share, assetShare, amountShare}
-use Rattle.book_model.specs.Accepted.{isLoan, isUnscored, isOther, countOf, refusalFor, accept}
-use Rattle.book_model.specs.Exact.{amountRest, restOf, movedOf, sumOver}
+use Rattle.book_model.specs.LineKinds.{contentKind, kindCounts}
+use Rattle.book_model.specs.Accepted.{countsIn, refusalFor, accept}
+use Rattle.book_model.specs.Exact.{exactAmount, exactShare, sumOver}
 use Rattle.book_report.specs.Report.{ratioLine, reportText}
-use Rattle.book_model.specs.History.{headerIn, termsOf, acceptedOf, along, sumsOf, opened, standing}
-use Rattle.book_model.specs.Demand3.{figuresFor, reportFor}
+use Rattle.book_model.specs.History.{headerIn, termsOf, acceptedOf, allFed, sumsOf, opened, linesTaken}
+use Rattle.book_model.specs.Calls.{openingFor, opening, closing}
+use Rattle.book_model.specs.Demand3.{figuresFor, reportFor, afterLines}
 use Rattle.book_model.specs.Examples.{workedHeader, workedLines, workedReport, TwelveExamples}
+use Rattle.book_model.proofs.Demand2.{demand2}
 
-taken : standing (along (opened workedHeader) workedLines) ≡ workedLines
-unfolding allWithin runOf same after isNumeral valueFrom numberOf headerInRange moneyInRange assetInRange amountInRange numberAt afterNumber afterNegative signedAt afterSigned placeOf afterWord headerHeld assetHeld plainHeld signedHeld amountHeld contentOf lineFor lineOf headerFor headerOf isLoan isUnscored isOther countOf refusalFor accept headerIn termsOf acceptedOf along
+taken : linesTaken (allFed (opened workedHeader) workedLines) ≡ workedLines
+unfolding allWithin runOf same after isNumeral valueFrom numberOf headerInRange moneyInRange assetInRange amountInRange numberAt afterNumber afterNegative signedAt afterSigned placeOf afterWord headerHeld assetHeld plainHeld signedHeld amountHeld contentOf lineFor lineOf headerFor headerOf contentKind kindCounts countsIn refusalFor accept headerIn termsOf acceptedOf allFed
 taken = refl
+
+opens : opening workedHeader .refusal ≡ 0
+unfolding allWithin runOf same after isNumeral valueFrom numberOf headerInRange numberAt afterNumber placeOf afterWord headerHeld contentOf headerFor headerOf openingFor
+opens = refl
+
+-- the header counts no loan
+pub counts-none : (termsOf (opened workedHeader) .header .loans ≡ 0) × (termsOf (opened workedHeader) .header .unscored ≡ 0)
+unfolding allWithin runOf same after isNumeral valueFrom numberOf headerInRange numberAt afterNumber placeOf afterWord headerHeld contentOf headerFor headerOf headerIn termsOf
+counts-none = (refl, refl)
+
+closes : (size : ℕ) → 512 ≤ size → closing (afterLines (opening workedHeader .state) workedLines .book) size .refusal ≡ 0
+closes size h = demand2 .closings workedHeader workedLines size .writes .1 (omega (arith, counts-none .0), omega (arith, counts-none .1), h)
 
 -- the report of the four lines
 worked : reportFor (termsOf (opened workedHeader)) workedLines ≡ workedReport
-unfolding allWithin runOf same after isNumeral valueFrom numberOf headerInRange moneyInRange assetInRange amountInRange numberAt afterNumber afterNegative signedAt afterSigned placeOf afterWord headerHeld assetHeld plainHeld signedHeld amountHeld contentOf lineFor lineOf headerFor headerOf headerIn termsOf ceiling assetCharge shareCharge amountRest restOf movedOf sumOver share assetShare amountShare sumOf sumsOf requiredOf admitted capitalOf ratioSize ratioOf figuresFor reportFor ratioLine reportText leading digits signed
+unfolding allWithin runOf same after isNumeral valueFrom numberOf headerInRange moneyInRange assetInRange amountInRange numberAt afterNumber afterNegative signedAt afterSigned placeOf afterWord headerHeld assetHeld plainHeld signedHeld amountHeld contentOf lineFor lineOf headerFor headerOf headerIn termsOf ceiling assetCharge shareCharge exactAmount exactShare sumOver kindCounts contentKind share assetShare amountShare sumOf sumsOf requiredOf admitted capitalOf ratioSize ratioOf figuresFor reportFor ratioLine reportText leading digits signed
 worked = refl
 
 pub twelve : TwelveExamples
@@ -45,6 +62,8 @@ twelve =
       example9 = other.example9;
       example10 = (refl, refl);
       example11 = refl;
+      opens12 = opens;
       taken12 = taken;
+      closes12 = closes;
       example12 = ap (reportFor (termsOf (opened workedHeader))) taken ∙ worked;
     }

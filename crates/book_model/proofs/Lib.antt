@@ -1,5 +1,7 @@
 pub mod BoundedShares
 pub mod Bounds
+pub mod Closings
+pub mod Demand1
 pub mod Demand2
 pub mod Demand3
 pub mod ExactSums
@@ -8,4 +10,5 @@ pub mod Feeding
 pub mod Near
 pub mod Ranged
 pub mod Required
+pub mod Shapes
 pub mod Steps

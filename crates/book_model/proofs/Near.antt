@@ -1,7 +1,7 @@
 -- The sums of the loans' numbers near the exact sums, from some order on with exp(-y) taken as 1 / E(m).
 -- Assumes nothing.
 use mathlib.Core.Path.{_≡_, refl}
-use mathlib.Core.List.{List, [], _∷_, map}
+use mathlib.Core.List.{List, [], _∷_}
 use Prim.Native.Nat.{ℕ, _+_, _*_, _^_, _≤_}
 use native.Mathlib.Omega.{arith}
 use lib.Dec.{eqb}
@@ -13,26 +13,27 @@ use Rattle.exact.proofs.Quantities.{both, mapped, always}
 use Rattle.fixed_point.specs.declared.Signed.{Signed}
 use Rattle.loan_charge.specs.Computation.{Chargeable}
 use Rattle.loan_charge.specs.Charge.{NearExact, signedCents}
+use Rattle.loan_charge.specs.CreditFactor.{RatesInRange}
 use Rattle.loan_charge.specs.declared.charge.LoanCharge.{LoanCharge}
-use Rattle.loan_charge.proofs.ChargeLaws.{charge-near}
 use Rattle.loan_charge.specs.declared.Score.{Score}
+use Rattle.loan_charge.proofs.ChargeLaws.{charge-near}
+use Rattle.loan_charge.proofs.CreditLaws.{in-range}
+use Rattle.line_forms.specs.declared.Content.{Content}
 use Rattle.line_forms.specs.declared.Loan.{Loan}
-use Rattle.line_forms.specs.declared.Class.{Class}
-use Rattle.line_forms.specs.declared.Class.the-variants.{Home, Multi}
-use Rattle.line_forms.specs.declared.Item.{Item}
-use Rattle.line_forms.specs.declared.Item.the-variants.{Claims, Lossc, Stated, Equity, Aoci, B, C}
-use Rattle.line_forms.specs.declared.Line.{Line}
-use Rattle.line_forms.specs.declared.Line.the-variants.{Loan as LoanLine, Policy as PolicyLine, Derivative as DerivativeLine, Asset as AssetLine, Amount as AmountLine, Refusal}
+use Rattle.line_forms.specs.Claims.{refusalOf as lineRefusal, heldBy as lineContent}
+use Rattle.line_forms.specs.Contents.{onAgedTable}
 use Rattle.line_forms.specs.Readings.{lineOf}
 use Rattle.figures.specs.declared.Sums.{Sums}
 use Rattle.figures.specs.Sums.{sumOf, plus, signedSum}
-use Rattle.book_model.specs.Terms.{Terms, factorFor}
-use Rattle.book_model.specs.Share.{share, loanShare, loanNumbers, policyShare, derivativeShare, assetShare, amountShare}
-use Rattle.book_model.specs.Exact.{totalOf, supplementOf, sumOver}
-use Rattle.book_model.specs.Accepted.{isLoan, countOf}
+use Rattle.book_model.specs.Accepted.{countsIn}
+use Rattle.book_model.specs.Exact.{exactShare, exactOf, sumOver}
 use Rattle.book_model.specs.History.{sumsOf}
+use Rattle.book_model.specs.LineKinds.{contentKind, kindCounts}
 use Rattle.book_model.specs.Ranges.{LoanRanges, Ranged}
+use Rattle.book_model.specs.Share.{share, loanShare, loanNumbers}
+use Rattle.book_model.specs.Terms.{Terms, factorFor}
 use Rattle.book_model.proofs.Ranged.{ranged}
+use Rattle.book_model.proofs.Shapes.{Shape, of-loan, of-other, of-none, shape}
 
 -- so many loans, each within 1.05 cents
 abbrev width : ℕ → Fraction
@@ -88,10 +89,14 @@ sum-close {x = x} {y = y} {m = m} {n = n} h k =
     }
 
 -- Terms under which every loan can be charged
-pub record GoodTerms (t : Terms) : Type 0 where
+pub record ChargeableTerms (t : Terms) : Type 0 where
   pub factors : (s : Score) → factorFor t s ≤ 3 * 10 ^ 17
 
-pub chargeable : {t : Terms} → GoodTerms t → (l : Loan) → LoanRanges l → Chargeable (l .balance) (l .balance) (l .amortization) (factorFor t (l .score))
+pub rates-chargeable : (t : Terms) → RatesInRange (t .rates) → ChargeableTerms t
+unfolding factorFor
+rates-chargeable t r = record { factors = λ s. in-range (t .rates) r (onAgedTable (t .header)) (t .header .loans) (t .header .unscored) s .most }
+
+pub chargeable : {t : Terms} → ChargeableTerms t → (l : Loan) → LoanRanges l → Chargeable (l .balance) (l .balance) (l .amortization) (factorFor t (l .score))
 chargeable g l r =
     record {
       divisor-least = r .balance-least;
@@ -102,33 +107,22 @@ chargeable g l r =
       factor-most = g .factors (l .score);
     }
 
-no-loan : (i : Item) (x : Signed) → (amountShare i x .total ≡ record { plus = 0; minus = 0 }) × (amountShare i x .supplement ≡ record { plus = 0; minus = 0 })
-unfolding amountShare
-no-loan Claims x = (refl, refl)
-no-loan Lossc x = (refl, refl)
-no-loan Stated x = (refl, refl)
-no-loan Equity x = (refl, refl)
-no-loan Aoci x = (refl, refl)
-no-loan B x = (refl, refl)
-no-loan C x = (refl, refl)
+line-close : {t : Terms} → ChargeableTerms t → (n : ℕ) (c : Content) → Ranged c →
+    Eventually (λ x. Close (exactShare t c .total .value x) (exactShare t c .supplement .value x) (share t c) (kindCounts (contentKind n c) .loans))
+unfolding exactShare share loanShare loanNumbers contentKind kindCounts
+line-close {t} g n c r = go (shape t c) r
+  where
+    go : {c : Content} → Shape t c → Ranged c →
+        Eventually (λ x. Close (exactShare t c .total .value x) (exactShare t c .supplement .value x) (share t c) (kindCounts (contentKind n c) .loans))
+    go (of-loan l) r =
+        mapped (λ m k. one-close (loanNumbers t l) (loanShare t l) refl refl k)
+        (charge-near (l .value) (l .balance) (l .balance) (l .amortization) (l .term) (factorFor t (l .score)) (chargeable g l r) (eqb (l .supplement) 1))
+    go (of-other k a) r = rw (k n, a .sums, a .exactly) (always (λ m. none-close _ refl refl))
+    go (of-none k a b) r = rw (k n, a, b) (always (λ m. none-close _ refl refl))
 
-no-loan-policy : (c : Class) (premium term completed : ℕ) → (policyShare c premium term completed .total ≡ record { plus = 0; minus = 0 }) × (policyShare c premium term completed .supplement ≡ record { plus = 0; minus = 0 })
-unfolding policyShare
-no-loan-policy Home premium term completed = (refl, refl)
-no-loan-policy Multi premium term completed = (refl, refl)
-
-line-close : {t : Terms} → GoodTerms t → (l : Line) → Ranged l → Eventually (λ x. Close (totalOf t l .value x) (supplementOf t l .value x) (share t l) (isLoan l))
-unfolding totalOf supplementOf share loanShare loanNumbers derivativeShare assetShare isLoan
-line-close {t} g (LoanLine l) r =
-    mapped (λ m n. one-close (loanNumbers t l) (loanShare t l) refl refl n)
-    (charge-near (l .value) (l .balance) (l .balance) (l .amortization) (l .term) (factorFor t (l .score)) (chargeable g l r) (eqb (l .supplement) 1))
-line-close {t} g (PolicyLine p) r = always (λ m. none-close _ (no-loan-policy (p .class) (p .premium) (p .term) (p .completed) .0) (no-loan-policy (p .class) (p .premium) (p .term) (p .completed) .1))
-line-close {t} g (DerivativeLine d) r = always (λ m. none-close _ refl refl)
-line-close {t} g (AssetLine a) r = always (λ m. none-close _ refl refl)
-line-close {t} g (AmountLine a) r = always (λ m. none-close _ (no-loan (a .item) (a .amount) .0) (no-loan (a .item) (a .amount) .1))
-line-close {t} g (Refusal n) r = always (λ m. none-close _ refl refl)
-
-pub list-close : {t : Terms} → GoodTerms t → (kept : List (List ℕ)) → Eventually (λ x. Close (sumOver (λ l. totalOf t l .value x) kept) (sumOver (λ l. supplementOf t l .value x) kept) (sumsOf t kept) (countOf isLoan kept))
-unfolding sumOver sumsOf sumOf countOf
+pub list-close : {t : Terms} → ChargeableTerms t → (kept : List (List ℕ)) →
+    Eventually (λ x. Close (sumOver (λ s. exactOf t s .total .value x) kept) (sumOver (λ s. exactOf t s .supplement .value x) kept) (sumsOf t kept) (countsIn kept .loans))
+unfolding sumOver sumsOf sumOf countsIn
 list-close g [] = always (λ m. none-close _ refl refl)
-list-close {t} g (s ∷ kept) = mapped (λ m h. sum-close (h .0) (h .1)) (both (line-close g (lineOf s) (ranged s)) (list-close g kept))
+list-close {t} g (s ∷ kept) =
+    mapped (λ m h. sum-close (h .0) (h .1)) (both (line-close g (lineRefusal (lineOf s)) (lineContent (lineOf s)) (ranged s)) (list-close g kept))

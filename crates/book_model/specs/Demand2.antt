@@ -1,19 +1,26 @@
 -- Demand 2: when, and only when, opening, feeding and closing are refused, and with which number (document 01, "Who can be turned down").
--- Lines are spoken of by `bytesOf`, how a form's data is written, and not by any reader. Proved in proofs/Demand2.antt.
-use Prim.Native.Nat.{ℕ, _≤_, _<_}
+-- Lines are spoken of by `bytesOf`, how a form's data is written, and not by any reader; counts by inequalities. Proved in proofs/Demand2.antt.
+use Prim.Native.Nat.{ℕ, _+_, _≤_, _<_}
 use mathlib.Core.Path.{_≡_}
-use mathlib.Core.Bool.{Bool, true, false}
+use mathlib.Core.Bool.{true, false}
 use mathlib.Core.List.{List}
-use mathlib.Core.Logic.{_↔_}
+use mathlib.Core.Logic.{_↔_, _⊎_}
 use lib.ListN.{length}
+use Rattle.loan_charge.specs.declared.Score.{Score}
+use Rattle.loan_charge.specs.declared.Score.the-variants.{Scored, Unscored}
 use Rattle.line_forms.specs.declared.Header.{Header}
 use Rattle.line_forms.specs.declared.Loan.{Loan}
 use Rattle.line_forms.specs.declared.Content.{Content}
 use Rattle.line_forms.specs.declared.Content.the-variants.{Header as header, Loan as loan, Policy as policy, Derivative as derivative, Asset as asset, Amount as amount, NoForm}
 use Rattle.line_forms.specs.Contents.{bytesOf, Written, inRange}
 use Rattle.line_forms.specs.Claims.{AfterHeader, NoBytes}
-use Rattle.book_model.specs.Accepted.{isLoan, isUnscored, isOther, countOf, loanBeyond, otherBeyond, refusalOf}
-use Rattle.book_model.specs.Calls.{emptyBook, zeroHeader, opening, wanting, closingRefusal}
+use Rattle.figures.specs.declared.Counts.{Counts}
+use Rattle.book_model.specs.Accepted.{Accepted, countsIn}
+use Rattle.book_model.specs.Calls.{Answer, emptyState, opening, feeding, closing}
+use Rattle.book_model.specs.Demand3.{afterLines}
+use Rattle.book_model.specs.History.{opened, allFed, termsOf, acceptedOf}
+use Rattle.book_model.specs.LineKinds.{lineCounts}
+use Rattle.book_model.specs.Terms.{Terms, termsWith}
 
 -- s is the bytes of data c
 pub record Shows (s : List ℕ) (c : Content) : Type 0 where
@@ -35,42 +42,66 @@ OtherForm (asset a) = Unit {0}
 OtherForm (amount a) = Unit {0}
 OtherForm NoForm = ⊥
 
--- Opening
-pub record OpeningRefusals (s : List ℕ) : Type 0 where
-  pub opens : (h : Header) → (opening s ≡ record { refusal = 0; book = emptyBook h }) ↔ (ShowsInRange s (header h) × (h .unscored ≤ h .loans))
-  pub number-1 : (opening s .refusal ≡ 1) ↔ (240 < length s)
-  pub number-2 : (opening s .refusal ≡ 2) ↔ ((length s ≤ 240) × NoBytes s)
-  pub number-7 : (opening s .refusal ≡ 7) ↔ ((c : Content) × AfterHeader c × Shows s c)
-  pub number-3 : (opening s .refusal ≡ 3) ↔ ((h : Header) × Shows s (header h) × (inRange (header h) ≡ false))
-  pub number-4 : (opening s .refusal ≡ 4) ↔ ((h : Header) × ShowsInRange s (header h) × (h .loans < h .unscored))
+-- What a line counts as, by its bytes: as a loan, as one without a score, as another line, or as none of them.
+pub record Counted (s : List ℕ) : Type 0 where
+  pub loans : (lineCounts s .loans ≡ 1) ↔ ((l : Loan) × ShowsInRange s (loan l))
+  pub unscored : (lineCounts s .unscored ≡ 1) ↔ ((l : Loan) × ShowsInRange s (loan l) × (l .score ≡ Unscored))
+  pub other : (lineCounts s .other ≡ 1) ↔ ((c : Content) × OtherForm c × ShowsInRange s c)
+  pub once : lineCounts s .loans + lineCounts s .other ≤ 1
+  pub among-loans : lineCounts s .unscored ≤ lineCounts s .loans
 
--- whether data keeps to the header's counts and the limit on other lines, counting the lines accepted so far
-abbrev pub beyond : Header → List (List ℕ) → Content → Bool
-beyond h kept (header x) = false
-beyond h kept (loan l) = loanBeyond h (countOf isLoan kept) (countOf isUnscored kept) (l .score)
-beyond h kept (policy p) = otherBeyond (countOf isOther kept)
-beyond h kept (derivative d) = otherBeyond (countOf isOther kept)
-beyond h kept (asset a) = otherBeyond (countOf isOther kept)
-beyond h kept (amount a) = otherBeyond (countOf isOther kept)
-beyond h kept NoForm = false
+-- the answer of opening with the line s
+pub record OpeningAnswer (s : List ℕ) (a : Answer) : Type 0 where
+  pub opens : (h : Header) → (a ≡ record { refusal = 0; state = emptyState (termsWith h) }) ↔ (ShowsInRange s (header h) × (h .unscored ≤ h .loans))
+  pub number-1 : (a .refusal ≡ 1) ↔ (240 < length s)
+  pub number-2 : (a .refusal ≡ 2) ↔ ((length s ≤ 240) × NoBytes s)
+  pub number-7 : (a .refusal ≡ 7) ↔ ((c : Content) × AfterHeader c × Shows s c)
+  pub number-3 : (a .refusal ≡ 3) ↔ ((h : Header) × Shows s (header h) × (inRange (header h) ≡ false))
+  pub number-4 : (a .refusal ≡ 4) ↔ ((h : Header) × ShowsInRange s (header h) × (h .loans < h .unscored))
 
--- Feeding a line to a book under the header h that has taken the lines `kept`: by Demand3's `answers` every such feeding answers `refusalOf`.
-pub record FeedingRefusals (h : Header) (kept : List (List ℕ)) (s : List ℕ) : Type 0 where
-  pub taken : (refusalOf h kept s ≡ 0) ↔ ((c : Content) × AfterHeader c × ShowsInRange s c × (beyond h kept c ≡ false))
-  pub number-1 : (refusalOf h kept s ≡ 1) ↔ (240 < length s)
-  pub number-2 : (refusalOf h kept s ≡ 2) ↔ ((length s ≤ 240) × NoBytes s)
-  pub number-7 : (refusalOf h kept s ≡ 7) ↔ ((x : Header) × Shows s (header x))
-  pub number-3 : (refusalOf h kept s ≡ 3) ↔ ((c : Content) × AfterHeader c × Shows s c × (inRange c ≡ false))
-  pub number-5 : (refusalOf h kept s ≡ 5) ↔ ((l : Loan) × ShowsInRange s (loan l) × (beyond h kept (loan l) ≡ true))
-  pub number-8 : (refusalOf h kept s ≡ 8) ↔ ((c : Content) × OtherForm c × ShowsInRange s c × (beyond h kept c ≡ true))
+-- a loan that the header's counts leave room for, and one beyond them, where lines with the counts c are taken
+abbrev pub LoanFits : Header → Counts → Score → Type 0
+LoanFits h c (Scored number age) = c .loans < h .loans
+LoanFits h c Unscored = (c .loans < h .loans) × (c .unscored < h .unscored)
 
--- Closing a book under the header h with these counts taken, into a buffer of this size
-pub record ClosingRefusals (h : Header) (loans unscored size : ℕ) : Type 0 where
-  pub number-6 : (closingRefusal h loans unscored size ≡ 6) ↔ (wanting h loans unscored ≡ true)
-  pub number-9 : (closingRefusal h loans unscored size ≡ 9) ↔ ((wanting h loans unscored ≡ false) × (size < 512))
-  pub written : (closingRefusal h loans unscored size ≡ 0) ↔ ((wanting h loans unscored ≡ false) × (512 ≤ size))
+abbrev pub LoanBeyond : Header → Counts → Score → Type 0
+LoanBeyond h c (Scored number age) = h .loans ≤ c .loans
+LoanBeyond h c Unscored = (h .loans ≤ c .loans) ⊎ (h .unscored ≤ c .unscored)
 
+-- data of a form other than the header's that keeps to the header's counts and the limit on other lines
+abbrev pub Fits : Header → Counts → Content → Type 0
+Fits h c (header x) = ⊥
+Fits h c (loan l) = LoanFits h c (l .score)
+Fits h c (policy p) = c .other < 100000
+Fits h c (derivative d) = c .other < 100000
+Fits h c (asset a) = c .other < 100000
+Fits h c (amount a) = c .other < 100000
+Fits h c NoForm = ⊥
+
+-- n is what feeding s answers under the terms t where the lines `a` are taken
+pub record FeedingAnswer (t : Terms) (a : Accepted) (s : List ℕ) (n : ℕ) : Type 0 where
+  pub taken : (n ≡ 0) ↔ ((c : Content) × ShowsInRange s c × Fits (t .header) (countsIn (a .kept)) c)
+  pub number-1 : (n ≡ 1) ↔ (240 < length s)
+  pub number-2 : (n ≡ 2) ↔ ((length s ≤ 240) × NoBytes s)
+  pub number-7 : (n ≡ 7) ↔ ((x : Header) × Shows s (header x))
+  pub number-3 : (n ≡ 3) ↔ ((c : Content) × AfterHeader c × Shows s c × (inRange c ≡ false))
+  pub number-5 : (n ≡ 5) ↔ ((l : Loan) × ShowsInRange s (loan l) × LoanBeyond (t .header) (countsIn (a .kept)) (l .score))
+  pub number-8 : (n ≡ 8) ↔ ((c : Content) × OtherForm c × ShowsInRange s c × (100000 ≤ countsIn (a .kept) .other))
+
+-- n is what closing answers there, with a buffer of this size where `least` bytes are asked
+pub record ClosingAnswer (least : ℕ) (t : Terms) (a : Accepted) (size n : ℕ) : Type 0 where
+  pub number-6 : (n ≡ 6) ↔ ((countsIn (a .kept) .loans < t .header .loans) ⊎ (countsIn (a .kept) .unscored < t .header .unscored))
+  pub number-9 : (n ≡ 9) ↔ ((t .header .loans ≤ countsIn (a .kept) .loans) × (t .header .unscored ≤ countsIn (a .kept) .unscored) × (size < least))
+  pub writes : (n ≡ 0) ↔ ((t .header .loans ≤ countsIn (a .kept) .loans) × (t .header .unscored ≤ countsIn (a .kept) .unscored) × (least ≤ size))
+
+-- For every header line, every list of lines fed after it, and the next line or buffer. (A header that is refused gives the value of an
+-- all-zero header, of which it holds too.)
 pub record Demand2 : Type 0 where
-  pub openings : (s : List ℕ) → OpeningRefusals s
-  pub feedings : (h : Header) (kept : List (List ℕ)) (s : List ℕ) → FeedingRefusals h kept s
-  pub closings : (h : Header) (loans unscored size : ℕ) → ClosingRefusals h loans unscored size
+  pub openings : (s : List ℕ) → OpeningAnswer s (opening s)
+  pub counted : (s : List ℕ) → Counted s
+  pub feedings : (header : List ℕ) (lines : List (List ℕ)) (s : List ℕ) →
+      FeedingAnswer (termsOf (opened header)) (acceptedOf (allFed (opened header) lines)) s
+      (feeding (afterLines (opening header .state) lines) s .refusal)
+  pub closings : (header : List ℕ) (lines : List (List ℕ)) (size : ℕ) →
+      ClosingAnswer 512 (termsOf (opened header)) (acceptedOf (allFed (opened header) lines)) size
+      (closing (afterLines (opening header .state) lines .book) size .refusal)

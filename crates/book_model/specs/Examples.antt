@@ -1,5 +1,5 @@
 -- Document 01, "Proved examples": the twelve, one joint fact about the definitions. Proved in proofs/Examples.antt.
-use Prim.Native.Nat.{ℕ}
+use Prim.Native.Nat.{ℕ, _≤_}
 use mathlib.Core.Path.{_≡_}
 use mathlib.Core.Bool.{Bool, true, false}
 use mathlib.Core.List.{List, [], _∷_, _++_}
@@ -12,8 +12,9 @@ use Rattle.loan_charge.specs.CreditFactor.{creditFactor, builtInRates, hundredt
 use Rattle.loan_charge.specs.Charge.{gaussExponent, valueRatio}
 use Rattle.other_charges.specs.Examples.{Example8, Example9}
 use Rattle.figures.specs.Figures.{positiveEquity, admittedB, admittedC}
-use Rattle.book_model.specs.History.{History, opened, along, termsOf, standing}
-use Rattle.book_model.specs.Demand3.{reportFor}
+use Rattle.book_model.specs.History.{opened, allFed, termsOf, linesTaken}
+use Rattle.book_model.specs.Calls.{opening, closing}
+use Rattle.book_model.specs.Demand3.{reportFor, afterLines}
 
 -- the worked input of document 01 and what it prints
 abbrev pub workedHeader : List ℕ
@@ -61,6 +62,8 @@ pub record TwelveExamples : Type 0 where
   pub example10 : (admittedB (positiveEquity (record { plus = 600; minus = 0 })) 500 ≡ 400) × (admittedC (positiveEquity (record { plus = 600; minus = 0 })) 400 100 ≡ 0)
   -- equity 9,300, c 1,000: 700
   pub example11 : admittedC (positiveEquity (record { plus = 9300; minus = 0 })) 0 1000 ≡ 700
-  -- the report of the worked input
-  pub taken12 : standing (along (opened workedHeader) workedLines) ≡ workedLines
-  pub example12 : reportFor (termsOf (opened workedHeader)) (standing (along (opened workedHeader) workedLines)) ≡ workedReport
+  -- The worked input: its header opens a book, all its lines are taken, closing is not refused, and its report is the worked one.
+  pub opens12 : opening workedHeader .refusal ≡ 0
+  pub taken12 : linesTaken (allFed (opened workedHeader) workedLines) ≡ workedLines
+  pub closes12 : (size : ℕ) → 512 ≤ size → closing (afterLines (opening workedHeader .state) workedLines .book) size .refusal ≡ 0
+  pub example12 : reportFor (termsOf (opened workedHeader)) (linesTaken (allFed (opened workedHeader) workedLines)) ≡ workedReport

@@ -4,14 +4,14 @@ use mathlib.Core.List.{List, [], _∷_, map}
 use Rattle.line_forms.specs.declared.Header.{Header}
 use Rattle.line_forms.specs.declared.HeaderLine.{HeaderLine}
 use Rattle.line_forms.specs.declared.HeaderLine.the-variants.{Header as HeaderRead, Refusal as HeaderRefusal}
+use Rattle.line_forms.specs.Claims.{heldBy as lineContent}
 use Rattle.line_forms.specs.Readings.{lineOf, headerOf}
 use Rattle.figures.specs.declared.Sums.{Sums}
 use Rattle.figures.specs.Sums.{sumOf}
-use Rattle.book_model.specs.declared.Book.{Book}
-use Rattle.book_model.specs.Terms.{Terms, termsWith}
-use Rattle.book_model.specs.Share.{share}
-use Rattle.book_model.specs.Accepted.{Accepted, accept}
+use Rattle.book_model.specs.Accepted.{Accepted, noneAccepted, accept}
 use Rattle.book_model.specs.Calls.{zeroHeader}
+use Rattle.book_model.specs.Share.{share}
+use Rattle.book_model.specs.Terms.{Terms, termsWith}
 
 pub data History : Type 0 where
   opened : (header : List ℕ) → History
@@ -29,21 +29,18 @@ termsOf (fed h line) = termsOf h
 
 -- document 01's ledger
 unfoldable pub acceptedOf : History → Accepted
-acceptedOf (opened header) = record { kept = [] }
-acceptedOf (fed h line) = accept (termsOf h .header) (acceptedOf h) line
+acceptedOf (opened header) = noneAccepted
+acceptedOf (fed h line) = accept (termsOf h) (acceptedOf h) line
 
--- the lines taken
-abbrev pub standing : History → List (List ℕ)
-standing h = acceptedOf h .kept
+-- 01: the lines taken
+abbrev pub linesTaken : History → List (List ℕ)
+linesTaken h = acceptedOf h .kept
 
 -- a list of lines fed in turn
-unfoldable pub along : History → List (List ℕ) → History
-along h [] = h
-along h (line ∷ lines) = along (fed h line) lines
+unfoldable pub allFed : History → List (List ℕ) → History
+allFed h [] = h
+allFed h (line ∷ lines) = allFed (fed h line) lines
 
--- the sums of lines under terms, and the book that they make
+-- the sums of lines under terms
 unfoldable pub sumsOf : Terms → List (List ℕ) → Sums
-sumsOf t kept = sumOf (map (λ s. share t (lineOf s)) kept)
-
-abbrev pub bookOf : Terms → List (List ℕ) → Book
-bookOf t kept = record { header = t .header; sums = sumsOf t kept }
+sumsOf t kept = sumOf (map (λ s. share t (lineContent (lineOf s))) kept)

@@ -1,11 +1,14 @@
 pub mod Accepted
 pub mod Calls
+pub mod Demand1
 pub mod Demand2
 pub mod Demand3
 pub mod Examples
 pub mod Exact
 pub mod History
+pub mod LineKinds
 pub mod Ranges
 pub mod Requirement
 pub mod Share
+pub mod Steps
 pub mod Terms

@@ -1,4 +1,5 @@
--- What is known of the numbers of a line or header that is read: the ranges of document 01, "A book, line by line", as far as the book needs them.
+-- What is known of the numbers of a line or header that is read: the ranges of document 01, as far as the book's code needs them.
+-- Nothing here has to be believed: proofs/Ranged.antt has it of every line, from the laws of line reading.
 use Prim.Native.Nat.{ℕ, _≤_}
 use Rattle.line_forms.specs.declared.Header.{Header}
 use Rattle.line_forms.specs.declared.Loan.{Loan}
@@ -6,8 +7,8 @@ use Rattle.line_forms.specs.declared.Policy.{Policy}
 use Rattle.line_forms.specs.declared.Derivative.{Derivative}
 use Rattle.line_forms.specs.declared.Asset.{Asset}
 use Rattle.line_forms.specs.declared.Amount.{Amount}
-use Rattle.line_forms.specs.declared.Line.{Line}
-use Rattle.line_forms.specs.declared.Line.the-variants.{Loan as LoanLine, Policy as PolicyLine, Derivative as DerivativeLine, Asset as AssetLine, Amount as AmountLine, Refusal}
+use Rattle.line_forms.specs.declared.Content.{Content}
+use Rattle.line_forms.specs.declared.Content.the-variants.{Header as header, Loan as loan, Policy as policy, Derivative as derivative, Asset as asset, Amount as amount, NoForm}
 use Rattle.line_forms.specs.declared.HeaderLine.{HeaderLine}
 use Rattle.line_forms.specs.declared.HeaderLine.the-variants.{Header as HeaderRead, Refusal as HeaderRefusal}
 
@@ -34,13 +35,14 @@ pub record AmountRanges (a : Amount) : Type 0 where
   pub plus : a .amount .plus ≤ 100000000000
   pub minus : a .amount .minus ≤ 100000000000
 
-abbrev pub Ranged : Line → Type 0
-Ranged (LoanLine l) = LoanRanges l
-Ranged (PolicyLine p) = PolicyRanges p
-Ranged (DerivativeLine d) = DerivativeRanges d
-Ranged (AssetLine a) = AssetRanges a
-Ranged (AmountLine a) = AmountRanges a
-Ranged (Refusal n) = Unit {0}
+abbrev pub Ranged : Content → Type 0
+Ranged (header h) = Unit {0}
+Ranged (loan l) = LoanRanges l
+Ranged (policy p) = PolicyRanges p
+Ranged (derivative d) = DerivativeRanges d
+Ranged (asset a) = AssetRanges a
+Ranged (amount a) = AmountRanges a
+Ranged NoForm = Unit {0}
 
 -- A header that is read.
 pub record HeaderRanges (h : Header) : Type 0 where

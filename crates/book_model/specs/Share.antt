@@ -5,8 +5,6 @@ use mathlib.Core.Bool.{Bool, true, false}
 use lib.Dec.{eqb}
 use Rattle.fixed_point.specs.declared.Signed.{Signed}
 use Rattle.loan_charge.specs.Computation.{chargeOf}
-use Rattle.loan_charge.specs.declared.Score.{Score}
-use Rattle.loan_charge.specs.declared.Score.the-variants.{Scored, Unscored}
 use Rattle.loan_charge.specs.declared.charge.LoanCharge.{LoanCharge}
 use Rattle.line_forms.specs.declared.Loan.{Loan}
 use Rattle.line_forms.specs.declared.Policy.{Policy}
@@ -17,19 +15,15 @@ use Rattle.line_forms.specs.declared.Asset.{Asset}
 use Rattle.line_forms.specs.declared.Amount.{Amount}
 use Rattle.line_forms.specs.declared.Item.{Item}
 use Rattle.line_forms.specs.declared.Item.the-variants.{Claims, Lossc, Stated, Equity, Aoci, B, C}
-use Rattle.line_forms.specs.declared.Line.{Line}
-use Rattle.line_forms.specs.declared.Line.the-variants.{Loan as LoanLine, Policy as PolicyLine, Derivative as DerivativeLine, Asset as AssetLine, Amount as AmountLine, Refusal}
+use Rattle.line_forms.specs.declared.Content.{Content}
+use Rattle.line_forms.specs.declared.Content.the-variants.{Header as header, Loan as loan, Policy as policy, Derivative as derivative, Asset as asset, Amount as amount, NoForm}
 use Rattle.other_charges.specs.Charges.{claimsPercent, lossComponentsPercent, statedPercent}
 use Rattle.other_charges.specs.Parts.{assetParts, shareParts, derivativeParts, provisionParts}
 use Rattle.figures.specs.declared.Money.{Money}
 use Rattle.figures.specs.declared.Sums.{Sums}
 use Rattle.figures.specs.Sums.{noSums, zeroSigned, zeroMoney, moneyOf}
+use Rattle.book_model.specs.LineKinds.{a-loan, another, kindCounts}
 use Rattle.book_model.specs.Terms.{Terms, factorFor}
-
--- 1 for a loan without a score, else 0
-unfoldable pub unscoredCount : Score → ℕ
-unscoredCount (Scored number age) = 0
-unscoredCount Unscored = 1
 
 -- the two numbers of a loan
 unfoldable pub loanNumbers : Terms → Loan → LoanCharge
@@ -38,9 +32,7 @@ loanNumbers t l =
 
 unfoldable pub loanShare : Terms → Loan → Sums
 loanShare t l = record {
-  loans = 1;
-  unscored = unscoredCount (l .score);
-  other = 0;
+  counts = kindCounts (a-loan (l .score));
   total = loanNumbers t l .total;
   supplement = loanNumbers t l .supplement;
   rest = zeroMoney;
@@ -54,9 +46,7 @@ loanShare t l = record {
 -- a line that is no loan, with what it adds to each sum
 abbrev pub otherShare : (rest moved : Money) (equity aoci : Signed) (b c : ℕ) → Sums
 otherShare rest moved equity aoci b c = record {
-  loans = 0;
-  unscored = 0;
-  other = 1;
+  counts = kindCounts another;
   total = zeroSigned;
   supplement = zeroSigned;
   rest = rest;
@@ -104,11 +94,12 @@ amountShare Aoci x = capitalShare zeroSigned x 0 0
 amountShare B x = capitalShare zeroSigned zeroSigned (x .plus) 0
 amountShare C x = capitalShare zeroSigned zeroSigned 0 (x .plus)
 
--- a refused line adds nothing
-unfoldable pub share : Terms → Line → Sums
-share t (LoanLine l) = loanShare t l
-share t (PolicyLine p) = policyShare (p .class) (p .premium) (p .term) (p .completed)
-share t (DerivativeLine d) = derivativeShare d
-share t (AssetLine a) = assetShare a
-share t (AmountLine a) = amountShare (a .item) (a .amount)
-share t (Refusal n) = noSums
+-- What the data of a line adds; a refused line adds nothing.
+unfoldable pub share : Terms → Content → Sums
+share t (header h) = noSums
+share t (loan l) = loanShare t l
+share t (policy p) = policyShare (p .class) (p .premium) (p .term) (p .completed)
+share t (derivative d) = derivativeShare d
+share t (asset a) = assetShare a
+share t (amount a) = amountShare (a .item) (a .amount)
+share t NoForm = noSums

@@ -11,9 +11,12 @@ pub record Terms : Type 0 where
   pub header : Header
   pub rates : List ℕ
 
+abbrev pub under : Header → List ℕ → Terms
+under h rates = record { header = h; rates = rates }
+
 -- the terms of a book that is opened with the regulator's table
 abbrev pub termsWith : Header → Terms
-termsWith h = record { header = h; rates = builtInRates }
+termsWith h = under h builtInRates
 
 -- m of a loan with this score, in 10^-17
 unfoldable pub factorFor : Terms → Score → ℕ

@@ -1,56 +1,64 @@
 // The mortgage capital book: reads a book from standard input and prints its report, or its refusal.
+ghost use mathlib.Core.Bool.{true, false};
 ghost use mathlib.Core.Path.{_≡_};
-ghost use lib.ListN.{length};
+ghost use Prim.Native.Nat.{_+_, _*_, _^_, _≤_};
+ghost use lib.ListN.{length, take};
 ghost use Rattle.loan_charge.specs.Tables.{exponentials};
 ghost use Rattle.loan_charge.specs.CreditFactor.{builtInRates};
-ghost use Rattle.driver.specs.Reading.{Running};
+ghost use Rattle.driver.specs.Reading.{withBytes, readingOf, Running};
+ghost use Rattle.capital.specs.Reads.{ReadsOn, Reached, EndsReading};
 use driver::Run;
 
-// A run after a read. `more` where the input may go on, `failed` where a read failed.
+// The reads are counted, since nothing says that the input ends: no run uses up so many.
+const MOST_READS: usize = 1099511627776;
+
+// A run after a read of so many bytes. `more` where the input may go on, `failed` where a read failed.
 struct Turn {
     run: Run,
+    count: usize,
     more: bool,
     failed: bool,
 }
 
-// One read, and what it gave. After a refusal nothing more is read.
-fn read_once(
-    run: Run,
-    tail: &mut [u8],
-    exps: &[u64; 1537],
-    rates: &[u64; 66],
-    buf: &mut [u8],
-) -> Turn
-    requires { ⌜ Running run × (now exps ≡ exponentials) × (now rates ≡ builtInRates) × (length (now tail) ≡ 241) ⌝ }
-    ensures { λ r. ⌜ Running (r .run) ⌝ }
+// One read, and what it gave. Nothing more is read after a refusal, nor of a line that is already too long.
+fn read_once(run: Run, exps: &[u64; 1537], rates: &[u64; 66], buf: &mut [u8]) -> Turn
+    requires { ⌜ Running run (now rates) × (run .read + length (now buf) ≤ 2 ^ 62) × (now exps ≡ exponentials) × (now rates ≡ builtInRates) ⌝ }
+    ensures reading { λ r. ⌜ ReadsOn (readingOf run (now (rates .entry))) (readingOf (r .run) (now (rates .entry))) (r .count) (now (buf .exit)) ⌝ }
+    ensures running { λ r. ⌜ Running (r .run) (now (rates .entry)) × (r .run .read ≡ run .read + r .count) ⌝ }
+    ensures ends { λ r. ⌜ EndsReading (readingOf (r .run) (now (rates .entry))) (r .count) (r .more) (r .failed) ⌝ }
 {
     let got = libc::read(0, buf);
     if got < 0 {
         return Turn {
             run,
+            count: 0,
             more: false,
             failed: true,
         };
     }
     let n = io::count(got, buf);
-    let next = driver::step(run, tail, exps, rates, &buf[0..n]);
+    let next = driver::step(run, exps, rates, &buf[0..n]);
     let p = next.progress;
+    let more = (0 < n) & (p.refusal == 0) & (next.held <= 240);
     Turn {
         run: next,
-        more: (0 < n) & (p.refusal == 0),
+        count: n,
+        more,
         failed: false,
     }
 }
 
-// Reads to the end of the input. Nothing says that it ends, so the reads are counted down from a number that no run uses up.
-fn read_all(tail: &mut [u8], exps: &[u64; 1537], rates: &[u64; 66], buf: &mut [u8]) -> Turn
-    requires { ⌜ (now exps ≡ exponentials) × (now rates ≡ builtInRates) × (length (now tail) ≡ 241) ⌝ }
-    ensures { λ r. ⌜ Running (r .run) ⌝ }
+// Reads to the end of the input.
+fn read_all(exps: &[u64; 1537], rates: &[u64; 66], buf: &mut [u8]) -> Turn
+    requires { ⌜ (now exps ≡ exponentials) × (now rates ≡ builtInRates) × (length (now buf) ≡ 65536) ⌝ }
+    ensures reached { λ r. ⌜ Reached (readingOf (r .run) (now (rates .entry))) (r .run .read) ⌝ }
+    ensures running { λ r. ⌜ Running (r .run) (now (rates .entry)) × (r .run .read ≤ 2 ^ 62) ⌝ }
+    ensures ends { λ r. ⌜ EndsReading (readingOf (r .run) (now (rates .entry))) (r .count) false (r .failed) ⌝ }
 {
     let mut run = driver::start();
-    let mut turns = u64::MAX;
+    let mut turns = MOST_READS;
     while 0 < turns {
-        let turn = read_once(run, tail, exps, rates, buf);
+        let turn = read_once(run, exps, rates, buf);
         if !turn.more {
             return turn;
         }
@@ -59,7 +67,8 @@ fn read_all(tail: &mut [u8], exps: &[u64; 1537], rates: &[u64; 66], buf: &mut [u
     }
     Turn {
         run,
-        more: true,
+        count: 0,
+        more: false,
         failed: true,
     }
 }
@@ -67,16 +76,15 @@ fn read_all(tail: &mut [u8], exps: &[u64; 1537], rates: &[u64; 66], buf: &mut [u
 fn main() {
     let exps = loan_charge::charge::table();
     let rates = loan_charge::credit::rates();
-    let mut tail = [0u8; 241];
     let mut buf = io::large_buffer();
     let mut out = [0u8; 512];
-    let turn = read_all(&mut tail, &exps, &rates, &mut buf);
+    let turn = read_all(&exps, &rates, &mut buf);
     if turn.failed {
         io::write_all(2, b"capital: reading standard input failed\n");
         return;
     }
     let run = turn.run;
-    let n = driver::finish(run, &tail, &exps, &rates, &mut out);
+    let n = driver::finish(run, &exps, &rates, &mut out);
     if !io::write_all(1, &out[0..n]) {
         io::write_all(2, b"capital: writing standard output failed\n");
     }

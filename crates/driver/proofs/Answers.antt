@@ -1,5 +1,5 @@
 -- What is printed where the lines end, by cases. Assumes nothing.
-use mathlib.Core.Path.{_≡_, refl, _∙_, ap}
+use mathlib.Core.Path.{_≡_, refl, sym, _∙_, ap, subst}
 use mathlib.Core.Bool.{Bool, true, false}
 use mathlib.Core.List.{List, [], _∷_}
 use Prim.Native.Nat.{ℕ, _≤_, _<_}
@@ -15,17 +15,17 @@ use Rattle.report.proofs.Decimal.{digits-length}
 use Rattle.report.proofs.Lines.{two-length}
 use Rattle.book_model.specs.declared.Book.{Book}
 use Rattle.book_model.specs.declared.Closed.{Closed}
-use Rattle.book_model.specs.Calls.{wanting, closing, closed, reportOf}
-use Rattle.driver.specs.declared.Progress.{Progress}
-use Rattle.driver.specs.Reading.{withLine}
+use Rattle.book_model.specs.Calls.{State, tooFew, closingWith, closing, closed, reportSize, reportOf}
+use Rattle.book_model.proofs.Closings.{untouched, writes, tells}
 use Rattle.driver.specs.Printed.{printedFor, printedAtEnd, endedWith}
+use Rattle.driver.specs.Reading.{Stage, withLine}
 
 -- a refusal's line fits any buffer for a report
-pub refusal-room : (refusal number size : ℕ) → refusal < 18446744073709551616 → number < 18446744073709551616 → 512 ≤ size → length (refusalLine refusal number) ≤ size
+pub refusal-room : (refusal number size : ℕ) → refusal < 18446744073709551616 → number < 18446744073709551616 → reportSize ≤ size → length (refusalLine refusal number) ≤ size
 refusal-room refusal number size h k room =
     omega (arith, two-length (text "refused") (digits refusal) (digits number), digits-length 19 refusal (omega arith), digits-length 19 number (omega arith))
 
-module _ (p : Progress) where
+module _ (p : Stage) where
   pub printed-refused : (p .refusal ≡ 0 → ⊥) → printedFor p ≡ refusalLine (p .refusal) (p .number)
   unfolding printedFor
   printed-refused h = rw (ne-eqb (p .refusal) 0 h) refl
@@ -34,31 +34,43 @@ module _ (p : Progress) where
   unfolding printedFor
   printed-empty e f = rw (eq-eqb (p .refusal) 0 e, eq-eqb (p .number) 1 f) refl
 
-  pub printed-end : p .refusal ≡ 0 → (p .number ≡ 1 → ⊥) → printedFor p ≡ printedAtEnd (p .book) (p .number)
+  pub printed-end : p .refusal ≡ 0 → (p .number ≡ 1 → ⊥) → printedFor p ≡ printedAtEnd (p .state) (p .number)
   unfolding printedFor
   printed-end e f = rw (eq-eqb (p .refusal) 0 e, ne-eqb (p .number) 1 f) refl
 
-module _ (b : Book) (out : List ℕ) (room : 512 ≤ length out) where
-  -- the report's room is there, so a refused closing is refused by 6
-  pub closing-refused : {c : Closed} {after : List ℕ} → c ≡ closing b (length out) → after ≡ closed b out → (c .refusal ≡ 0 → ⊥) → (after ≡ out) × ((n : ℕ) → printedAtEnd b n ≡ refusalLine 6 n)
-  unfolding closing closed printedAtEnd
-  closing-refused {c} {after} e f h = go (wanting (b .header) (b .sums .loans) (b .sums .unscored)) e f
-    where
-      go : (t : Bool) → c ≡ pick t (record { refusal = 6; length = 0 }) (pick (ltb (length out) 512) (record { refusal = 9; length = 0 }) (record { refusal = 0; length = length (reportOf b) })) → after ≡ pick t out (pick (ltb (length out) 512) out (onto out (reportOf b))) → (after ≡ out) × ((n : ℕ) → pick t (refusalLine 6 n) (reportOf b) ≡ refusalLine 6 n)
-      go true e f = (f, λ n. refl)
-      go false e f = absurd (h (ap (λ (x : Closed). x .refusal) (rw (le-ltb (length out) 512 room) at e)))
+module _ (s : State) (out : List ℕ) (room : reportSize ≤ length out) where
+  -- the report's room is there, so a closing is refused by 6 or not at all
+  by-six : (t : Bool) → tooFew (s .book .header) (s .book .sums .counts) ≡ t → closing (s .book) (length out) .refusal ≡ pick t 6 0
+  unfolding closingWith
+  by-six t e = rw (e, le-ltb (length out) reportSize room) refl
 
-  pub closing-written : {c : Closed} {after : List ℕ} → c ≡ closing b (length out) → after ≡ closed b out → c .refusal ≡ 0 → (n : ℕ) → Written out (printedAtEnd b n) (c .length) after
-  unfolding closing closed printedAtEnd
-  closing-written {c} {after} e f h n = go (wanting (b .header) (b .sums .loans) (b .sums .unscored)) e f
+  pub closing-refused : {c : Closed} {after : List ℕ} → c ≡ closing (s .book) (length out) → after ≡ closed (s .book) out → (c .refusal ≡ 0 → ⊥) → (after ≡ out) × ((n : ℕ) → printedAtEnd s n ≡ refusalLine 6 n)
+  unfolding printedAtEnd
+  closing-refused {c} {after} e f h = (
+    f ∙ untouched reportSize (s .book) (reportOf (s .book)) out (λ z. h (ap (λ (x : Closed). x .refusal) e ∙ z)),
+    λ n. go n (tooFew (s .book .header) (s .book .sums .counts)) refl,
+  )
     where
-      go : (t : Bool) → c ≡ pick t (record { refusal = 6; length = 0 }) (pick (ltb (length out) 512) (record { refusal = 9; length = 0 }) (record { refusal = 0; length = length (reportOf b) })) → after ≡ pick t out (pick (ltb (length out) 512) out (onto out (reportOf b))) → Written out (pick t (refusalLine 6 n) (reportOf b)) (c .length) after
-      go true e f = absurd (omega (arith, ap (λ (x : Closed). x .refusal) e))
-      go false e f =
-          record { count = ap (λ (x : Closed). x .length) (rw (le-ltb (length out) 512 room) at e); bytes = rw (le-ltb (length out) 512 room) at f }
+      go : (n : ℕ) (t : Bool) → tooFew (s .book .header) (s .book .sums .counts) ≡ t → pick t (refusalLine 6 n) (reportOf (s .book)) ≡ refusalLine 6 n
+      go n true k = refl
+      go n false k = absurd (h (ap (λ (x : Closed). x .refusal) e ∙ by-six false k))
+
+  pub closing-written : {c : Closed} {after : List ℕ} → c ≡ closing (s .book) (length out) → after ≡ closed (s .book) out → c .refusal ≡ 0 → (n : ℕ) → Written out (printedAtEnd s n) (c .length) after
+  unfolding printedAtEnd
+  closing-written {c} {after} e f h n = go (tooFew (s .book .header) (s .book .sums .counts)) refl
+    where
+      zero : closing (s .book) (length out) .refusal ≡ 0
+      zero = sym (ap (λ (x : Closed). x .refusal) e) ∙ h
+
+      go : (t : Bool) → tooFew (s .book .header) (s .book .sums .counts) ≡ t → Written out (pick t (refusalLine 6 n) (reportOf (s .book))) (c .length) after
+      go true k = absurd (omega (arith, zero, by-six true k))
+      go false k = record {
+        count = ap (λ (x : Closed). x .length) e ∙ tells reportSize (s .book) (reportOf (s .book)) (length out) zero;
+        bytes = f ∙ writes reportSize (s .book) (reportOf (s .book)) out zero;
+      }
 
 -- the end of the input ends a line that has bytes
-pub ended-line : (p : Progress) (line : List ℕ) → 1 ≤ length line → endedWith p line ≡ withLine p line
+pub ended-line : (p : Stage) (line : List ℕ) → 1 ≤ length line → endedWith p line ≡ withLine p line
 unfolding endedWith
 ended-line p [] h = absurd (omega arith)
 ended-line p (byte ∷ line) h = refl

@@ -6,33 +6,25 @@ use Prim.Native.Nat.{ℕ, _+_, _-_, _≤_, _<_}
 use native.Mathlib.Omega.{arith}
 use native.Mathlib.Numerals.{add-one}
 use lib.Dec.{eqb, ltb}
-use lib.ListN.{length, take, drop, set, getD, length-append, length-take, length-drop}
+use lib.ListN.{length, take, drop, set, getD, length-append, length-take, length-drop, take-append-drop}
 use lib.Seq.{take-suc, take-suc-set, take-all, take-append-le, length-take-le, take-take, take-add, getD-drop}
-use borrow.Author.Tests.{eq-eqb, lt-ltb, ltb-true, ltb-false}
+use borrow.Author.Tests.{eq-eqb, ltb-true, ltb-false}
 use Rattle.bytes.specs.Bytes.{indexOf}
 use Rattle.line_forms.specs.declared.Line.the-variants.{Refusal}
 use Rattle.line_forms.specs.declared.HeaderLine.the-variants.{Refusal as HeaderRefusal}
 use Rattle.line_forms.specs.Readings.{lineOf, headerOf}
-use Rattle.driver.specs.declared.Progress.{Progress}
-use Rattle.driver.specs.Reading.{Reading, newline, unbroken, withLine, withByte, withBytes, kept}
-use Rattle.driver.proofs.Lines.{first-bytes}
-use Rattle.driver.proofs.FirstNewline.{index-unbroken, index-at}
+use Rattle.line_forms.proofs.HeaderLaws.{header-reading}
+use Rattle.line_forms.proofs.LineLaws.{line-reading}
+use Rattle.driver.specs.Reading.{Stage, Reading, newline, unbroken, withLine, withByte, withBytes, withTail}
+use Rattle.driver.proofs.FirstNewline.{unbroken-append, index-unbroken, index-at}
 
 -- Of a line over 240 bytes the first 241 read the same.
 
-long-line : (s : List ℕ) → 240 < length s → lineOf s ≡ Refusal 1
-unfolding lineOf
-long-line s h = rw (lt-ltb 240 (length s) h) refl
-
-long-header : (s : List ℕ) → 240 < length s → headerOf s ≡ HeaderRefusal 1
-unfolding headerOf
-long-header s h = rw (lt-ltb 240 (length s) h) refl
-
-long-same : (p : Progress) (s t : List ℕ) → 240 < length s → 240 < length t → withLine p s ≡ withLine p t
+pub long-same : (p : Stage) (s t : List ℕ) → 240 < length s → 240 < length t → withLine p s ≡ withLine p t
 unfolding withLine
-long-same p s t h k = rw (long-line s h, long-line t k, long-header s h, long-header t k) refl
+long-same p s t h k = rw (line-reading s .refused1 .1 h, line-reading t .refused1 .1 k, header-reading s .refused1 .1 h, header-reading t .refused1 .1 k) refl
 
-pub cut-same : (p : Progress) (s : List ℕ) → withLine p (take 241 s) ≡ withLine p s
+pub cut-same : (p : Stage) (s : List ℕ) → withLine p (take 241 s) ≡ withLine p s
 cut-same p s = go (ltb 240 (length s)) refl
   where
     go : (t : Bool) → ltb 240 (length s) ≡ t → withLine p (take 241 s) ≡ withLine p s
@@ -50,31 +42,38 @@ take-front n a b = go (ltb (length a) n) refl
         let m : length (take n a) ≡ n = length-take-le n a h in
         rw (take-append-le n a b h, take-append-le n (take n a) b (omega arith)) (take-take n n a (omega arith))
 
-kept-kept : (line more bytes : List ℕ) → kept (kept line more) bytes ≡ kept line (more ++ bytes)
-kept-kept line more bytes = take-front 241 (line ++ more) bytes ∙ ap (λ (l : List ℕ). take 241 l) (append-assoc line more bytes)
+tail-tail : (line more bytes : List ℕ) → withTail (withTail line more) bytes ≡ withTail line (more ++ bytes)
+tail-tail line more bytes = take-front 241 (line ++ more) bytes ∙ ap (λ (l : List ℕ). take 241 l) (append-assoc line more bytes)
 
-pub kept-none : (line : List ℕ) → length line ≤ 241 → line ≡ kept line []
-kept-none line h = sym (ap (λ (l : List ℕ). take 241 l) (append-nil line) ∙ take-all 241 line h)
+pub tail-none : (line : List ℕ) → length line ≤ 241 → line ≡ withTail line []
+tail-none line h = sym (ap (λ (l : List ℕ). take 241 l) (append-nil line) ∙ take-all 241 line h)
 
-pub kept-next : (line bytes : List ℕ) (i : ℕ) → i < length bytes → kept (kept line (take i bytes)) (getD bytes i 0 ∷ []) ≡ kept line (take (i + 1) bytes)
-kept-next line bytes i h = rw (add-one i, take-suc bytes i 0 h) (kept-kept line (take i bytes) (getD bytes i 0 ∷ []))
+pub tail-next : (line bytes : List ℕ) (i : ℕ) → i < length bytes → withTail (withTail line (take i bytes)) (getD bytes i 0 ∷ []) ≡ withTail line (take (i + 1) bytes)
+tail-next line bytes i h = rw (add-one i, take-suc bytes i 0 h) (tail-tail line (take i bytes) (getD bytes i 0 ∷ []))
 
 -- a byte that is held
-pub kept-more : (tail : List ℕ) (held byte : ℕ) → held < 241 → length tail ≡ 241 → take (held + 1) (set tail held byte) ≡ kept (take held tail) (byte ∷ [])
-kept-more tail held byte h e =
+pub tail-more : (tail : List ℕ) (held byte : ℕ) → held < 241 → length tail ≡ 242 → take (held + 1) (set tail held byte) ≡ withTail (take held tail) (byte ∷ [])
+tail-more tail held byte h e =
     let n : length (take held tail) ≡ held = length-take-le held tail (omega arith) in
     rw (add-one held, take-suc-set tail held byte (omega arith))
     (sym (take-all 241 (take held tail ++ (byte ∷ [])) (rw (length-append (take held tail) (byte ∷ [])) (omega arith))))
 
 -- a byte beyond those that are held
-pub kept-full : (tail : List ℕ) (held byte : ℕ) → held ≡ 241 → length tail ≡ 241 → take held tail ≡ kept (take held tail) (byte ∷ [])
-kept-full tail held byte h e =
+pub tail-full : (tail : List ℕ) (held byte : ℕ) → held ≡ 241 → length tail ≡ 242 → take held tail ≡ withTail (take held tail) (byte ∷ [])
+tail-full tail held byte h e =
     let n : length (take held tail) ≡ held = length-take-le held tail (omega arith) in
     rw (take-append-le 241 (take held tail) (byte ∷ []) (omega arith)) (sym (take-all 241 (take held tail) (omega arith)))
 
--- a line of which the first bytes were held before
-pub held-line : {r : Progress} (p : Progress) (tail line bytes : List ℕ) (n : ℕ) → r ≡ withLine p (take (n - 0) tail) → take n tail ≡ kept line bytes → r ≡ withLine p (line ++ bytes)
-held-line p tail line bytes n h e = first-bytes p tail n h ∙ ap (withLine p) e ∙ cut-same p (line ++ bytes)
+-- what is held of an unbroken line and unbroken bytes is unbroken
+unbroken-front : (n : ℕ) (s : List ℕ) → unbroken s ≡ true → unbroken (take n s) ≡ true
+unbroken-front n s e = go (unbroken (take n s)) (sym (unbroken-append (take n s) (drop n s)) ∙ ap unbroken (take-append-drop n s) ∙ e)
+  where
+    go : (a : Bool) → (a && unbroken (drop n s)) ≡ true → a ≡ true
+    go true k = refl
+    go false k = k
+
+pub unbroken-tail : (a b : List ℕ) → unbroken a ≡ true → unbroken b ≡ true → unbroken (withTail a b) ≡ true
+unbroken-tail a b e f = unbroken-front 241 (a ++ b) (unbroken-append a b ∙ rw (e, f) refl)
 
 -- reading a and then b is reading both at once
 pub bytes-append : (s : Reading) (a b : List ℕ) → withBytes s (a ++ b) ≡ withBytes (withBytes s a) b
@@ -86,45 +85,61 @@ bytes-next : (s : Reading) (input : List ℕ) (i : ℕ) → i < length input →
 unfolding withBytes
 bytes-next s input i h = rw (add-one i, take-suc input i 0 h) (bytes-append s (take i input) (getD input i 0 ∷ []))
 
-byte-ends : (p : Progress) (t : List ℕ) (byte : ℕ) → byte ≡ newline → withByte (record { progress = p; tail = t }) byte ≡ record { progress = withLine p t; tail = [] }
+byte-ends : (p : Stage) (t : List ℕ) (byte : ℕ) → byte ≡ newline → withByte (record { stage = p; tail = t }) byte ≡ record { stage = withLine p t; tail = [] }
 unfolding withByte
 byte-ends p t byte e = rw (eq-eqb byte newline e) refl
 
-byte-kept : (p : Progress) (t : List ℕ) (byte : ℕ) → eqb byte newline ≡ false → withByte (record { progress = p; tail = t }) byte ≡ record { progress = p; tail = kept t (byte ∷ []) }
+byte-tail : (p : Stage) (t : List ℕ) (byte : ℕ) → eqb byte newline ≡ false → withByte (record { stage = p; tail = t }) byte ≡ record { stage = p; tail = withTail t (byte ∷ []) }
 unfolding withByte
-byte-kept p t byte e = rw e refl
+byte-tail p t byte e = rw e refl
 
 -- bytes of which none ends a line
-bytes-kept : (w : List ℕ) (p : Progress) (t : List ℕ) → length t ≤ 241 → unbroken w ≡ true → withBytes (record { progress = p; tail = t }) w ≡ record { progress = p; tail = kept t w }
+pub bytes-tail : (w : List ℕ) (p : Stage) (t : List ℕ) → length t ≤ 241 → unbroken w ≡ true → withBytes (record { stage = p; tail = t }) w ≡ record { stage = p; tail = withTail t w }
 unfolding withBytes unbroken
-bytes-kept [] p t h e = λ i. record { progress = p; tail = kept-none t h i }
-bytes-kept (byte ∷ w) p t h e = go (eqb byte newline) refl e (bytes-kept w p (kept t (byte ∷ [])) (rw (length-take 241 (t ++ (byte ∷ []))) (omega arith)))
+bytes-tail [] p t h e = λ i. record { stage = p; tail = tail-none t h i }
+bytes-tail (byte ∷ w) p t h e = go (eqb byte newline) refl e (bytes-tail w p (withTail t (byte ∷ [])) (rw (length-take 241 (t ++ (byte ∷ []))) (omega arith)))
   where
-    go : (b : Bool) → eqb byte newline ≡ b → (not b && unbroken w) ≡ true → (unbroken w ≡ true → withBytes (record { progress = p; tail = kept t (byte ∷ []) }) w ≡ record { progress = p; tail = kept (kept t (byte ∷ [])) w }) → withBytes (withByte (record { progress = p; tail = t }) byte) w ≡ record { progress = p; tail = kept t (byte ∷ w) }
+    go : (b : Bool) → eqb byte newline ≡ b → (not b && unbroken w) ≡ true → (unbroken w ≡ true → withBytes (record { stage = p; tail = withTail t (byte ∷ []) }) w ≡ record { stage = p; tail = withTail (withTail t (byte ∷ [])) w }) → withBytes (withByte (record { stage = p; tail = t }) byte) w ≡ record { stage = p; tail = withTail t (byte ∷ w) }
     go true f k ih = absurd (false≢true k)
     go false f k ih =
-        ap (λ (s : Reading). withBytes s w) (byte-kept p t byte f) ∙ ih k ∙ (λ i. record { progress = p; tail = kept-kept t (byte ∷ []) w i })
+        ap (λ (s : Reading). withBytes s w) (byte-tail p t byte f) ∙ ih k ∙ (λ i. record { stage = p; tail = tail-tail t (byte ∷ []) w i })
 
--- A part of a chunk, up to where the line that begins at i ends, is read after all that stands before it.
-module _ (s : Reading) (chunk : List ℕ) (p : Progress) (t : List ℕ) (i end : ℕ) (so-far : record { progress = p; tail = t } ≡ withBytes s (take i chunk)) (few : length t ≤ 241) (inside : i ≤ length chunk) (found : end ≡ i + indexOf newline (drop i chunk)) where
-  part-read : withBytes s (take end chunk) ≡ record { progress = p; tail = kept t (take (end - i) (drop i chunk)) }
-  part-read =
-      let e : i + (end - i) ≡ end = omega arith in
-      let k : end - i ≡ indexOf newline (drop i chunk) = omega arith in
-      let split : take end chunk ≡ take i chunk ++ take (end - i) (drop i chunk) = ap (λ (n : ℕ). take n chunk) (sym e) ∙ take-add i (end - i) chunk in
-      ap (withBytes s) split ∙ bytes-append s (take i chunk) (take (end - i) (drop i chunk))
-      ∙ ap (λ (x : Reading). withBytes x (take (end - i) (drop i chunk))) (sym so-far)
-      ∙ bytes-kept (take (end - i) (drop i chunk)) p t few (rw k (index-unbroken (drop i chunk)))
+-- bytes of which the last alone ends a line
+pub line-ended : (p : Stage) (line : List ℕ) → unbroken line ≡ true → withBytes (record { stage = p; tail = [] }) (line ++ (newline ∷ [])) ≡ record { stage = withLine p line; tail = [] }
+unfolding withBytes
+line-ended p line e =
+    bytes-append (record { stage = p; tail = [] }) line (newline ∷ [])
+    ∙ ap (λ (x : Reading). withByte x newline) (bytes-tail line p [] (omega arith) e)
+    ∙ byte-ends p (withTail [] line) newline refl
+    ∙ (λ i. record { stage = cut-same p line i; tail = [] })
 
-  -- the whole line
-  pub line-read : end < length chunk → withBytes s (take (end + 1) chunk) ≡ record { progress = withLine p (t ++ take (end - i) (drop i chunk)); tail = [] }
-  line-read h =
-      let n : length (drop i chunk) ≡ length chunk - i = length-drop i chunk in
-      let at : getD chunk end 0 ≡ newline = rw found (sym (getD-drop i chunk (indexOf newline (drop i chunk)) 0) ∙ index-at (drop i chunk) (omega arith)) in
-      bytes-next s chunk end h ∙ ap (λ (x : Reading). withByte x (getD chunk end 0)) part-read
-      ∙ byte-ends p (kept t (take (end - i) (drop i chunk))) (getD chunk end 0) at
-      ∙ (λ j. record { progress = cut-same p (t ++ take (end - i) (drop i chunk)) j; tail = [] })
+-- The first line of bytes, and the bytes after it: t was held before.
+module _ (p : Stage) (t bytes : List ℕ) (few : length t ≤ 241) (end : ℕ) (found : end ≡ indexOf newline bytes) where
+  first-part : withBytes (record { stage = p; tail = t }) (take end bytes) ≡ record { stage = p; tail = withTail t (take end bytes) }
+  first-part = bytes-tail (take end bytes) p t few (rw found (index-unbroken bytes))
 
-  -- a line that goes on beyond the chunk
-  pub rest-read : end ≡ length chunk → withBytes s chunk ≡ record { progress = p; tail = kept t (take (end - i) (drop i chunk)) }
-  rest-read e = ap (withBytes s) (sym (take-all end chunk (omega arith))) ∙ part-read
+  pub first-line : end < length bytes → withBytes (record { stage = p; tail = t }) (take (end + 1) bytes) ≡ record { stage = withLine p (withTail t (take end bytes)); tail = [] }
+  first-line h =
+      let at : getD bytes end 0 ≡ newline = rw found (index-at bytes (omega arith)) in
+      bytes-next (record { stage = p; tail = t }) bytes end h ∙ ap (λ (x : Reading). withByte x (getD bytes end 0)) first-part
+      ∙ byte-ends p (withTail t (take end bytes)) (getD bytes end 0) at
+
+  pub no-line : end ≡ length bytes → withBytes (record { stage = p; tail = t }) bytes ≡ record { stage = p; tail = withTail t (take end bytes) }
+  no-line e = ap (withBytes (record { stage = p; tail = t })) (sym (take-all end bytes (omega arith))) ∙ first-part
+
+-- A line that begins at i, after all that stands before it.
+pub line-read : (s : Reading) (bytes : List ℕ) (p : Stage) (i end : ℕ) → record { stage = p; tail = [] } ≡ withBytes s (take i bytes) → i ≤ end → end ≡ i + indexOf newline (drop i bytes) → end < length bytes →
+    withBytes s (take (end + 1) bytes) ≡ record { stage = withLine p (take (end - i) (drop i bytes)); tail = [] }
+line-read s bytes p i end so-far inside found h =
+    let n : length (drop i bytes) ≡ length bytes - i = length-drop i bytes in
+    let e : i + (end - i + 1) ≡ end + 1 = omega arith in
+    let k : end - i ≡ indexOf newline (drop i bytes) = omega arith in
+    ap (λ (m : ℕ). withBytes s (take m bytes)) (sym e) ∙ ap (withBytes s) (take-add i (end - i + 1) bytes)
+    ∙ bytes-append s (take i bytes) (take (end - i + 1) (drop i bytes))
+    ∙ ap (λ (x : Reading). withBytes x (take (end - i + 1) (drop i bytes))) (sym so-far)
+    ∙ first-line p [] (drop i bytes) (omega arith) (end - i) k (omega arith)
+    ∙ (λ j. record { stage = cut-same p (take (end - i) (drop i bytes)) j; tail = [] })
+
+-- bytes in which no newline is found are unbroken
+pub none-found : (bytes : List ℕ) (end : ℕ) → end ≡ indexOf newline bytes → length bytes ≤ end → unbroken bytes ≡ true
+none-found bytes end found h = ap unbroken (sym (take-all end bytes h)) ∙ rw found (index-unbroken bytes)

@@ -12,7 +12,7 @@ use borrow.Author.Tests.{eqb-true}
 use Rattle.bytes.specs.Bytes.{slice, indexAfter, indexOf}
 use Rattle.driver.specs.Reading.{newline, unbroken}
 
-unbroken-append : (a b : List ℕ) → unbroken (a ++ b) ≡ (unbroken a && unbroken b)
+pub unbroken-append : (a b : List ℕ) → unbroken (a ++ b) ≡ (unbroken a && unbroken b)
 unfolding unbroken
 unbroken-append [] b = refl
 unbroken-append (x ∷ a) b = go (eqb x newline) (unbroken-append a b)

@@ -1,127 +1,169 @@
 -- What the program prints, however its reads cut the input, is `printed` of the whole input. Assumes nothing.
-use mathlib.Core.Path.{_≡_, refl, sym, _∙_, ap, subst}
+use mathlib.Core.Path.{_≡_, refl, sym, _∙_, ap}
 use mathlib.Core.Bool.{Bool, true, false}
 use mathlib.Core.List.{List, [], _∷_, _++_}
-use Prim.Native.Nat.{ℕ, _+_, _≤_}
+use mathlib.Core.Logic.{⊎-elim}
+use Prim.Native.Nat.{ℕ, _+_, _≤_, _<_}
 use native.Mathlib.Omega.{arith}
 use lib.Dec.{eqb}
-use lib.ListN.{take}
+use lib.ListN.{length, take, length-take}
+use lib.Seq.{take-append-le, take-all}
 use borrow.Author.Tests.{eqb-true, eqb-false}
 use Rattle.exact.specs.Choice.{pick}
-use Rattle.report.specs.Line.{refusalLine, Written}
-use Rattle.book_model.specs.declared.Book.{Book}
-use Rattle.book_model.specs.Calls.{opening, feeding}
-use Rattle.driver.specs.declared.Progress.{Progress}
-use Rattle.driver.specs.Reading.{Reading, atStart, after, newline, kept, withLine, withByte, withBytes, readingOf}
-use Rattle.driver.specs.declared.Run.{Run}
-use Rattle.driver.proofs.Lines.{line-refused, line-opens, line-fed}
+use Rattle.report.specs.Line.{refusalLine}
+use Rattle.line_forms.specs.declared.Line.the-variants.{Refusal}
+use Rattle.line_forms.specs.declared.HeaderLine.the-variants.{Refusal as HeaderRefusal}
+use Rattle.line_forms.specs.Readings.{lineOf, headerOf}
+use Rattle.line_forms.proofs.HeaderLaws.{header-reading}
+use Rattle.line_forms.proofs.LineLaws.{line-reading}
+use Rattle.book_model.specs.Accepted.{refusalFor}
+use Rattle.book_model.specs.Calls.{State, Answer, openingFor, opening, feedingLine, feeding}
+use Rattle.book_model.specs.LineKinds.{contentKind}
+use Rattle.driver.specs.Program.{Settled}
+use Rattle.driver.specs.Reading.{Stage, Reading, atStart, fromStart, after, newline, withTail, withLine, withByte, withBytes}
+use Rattle.driver.proofs.LineLaws.{line-refused, line-opens, line-fed}
 use Rattle.driver.proofs.Bytes.{cut-same, take-front, bytes-append}
 use Rattle.driver.proofs.Answers.{printed-refused, printed-empty, printed-end}
 use Rattle.driver.specs.Printed.{lastOf, linesFrom, linesOf, printedFeeding, printedLines, printed, printedFor, endedWith, ended}
 
 -- the reading after a byte, with the whole line in place of its first bytes
-byte-newline : (p : Progress) (line : List ℕ) (byte : ℕ) → eqb byte newline ≡ true → withByte (record { progress = p; tail = take 241 line }) byte ≡ record { progress = withLine p line; tail = take 241 [] }
+byte-newline : (p : Stage) (line : List ℕ) (byte : ℕ) → eqb byte newline ≡ true → withByte (record { stage = p; tail = take 241 line }) byte ≡ record { stage = withLine p line; tail = take 241 [] }
 unfolding withByte
-byte-newline p line byte e = rw e (λ i. record { progress = cut-same p line i; tail = [] })
+byte-newline p line byte e = rw e (λ i. record { stage = cut-same p line i; tail = [] })
 
-byte-other : (p : Progress) (line : List ℕ) (byte : ℕ) → eqb byte newline ≡ false → withByte (record { progress = p; tail = take 241 line }) byte ≡ record { progress = p; tail = take 241 (line ++ (byte ∷ [])) }
+byte-other : (p : Stage) (line : List ℕ) (byte : ℕ) → eqb byte newline ≡ false → withByte (record { stage = p; tail = take 241 line }) byte ≡ record { stage = p; tail = take 241 (line ++ (byte ∷ [])) }
 unfolding withByte
-byte-other p line byte e = rw e (λ i. record { progress = p; tail = take-front 241 line (byte ∷ []) i })
+byte-other p line byte e = rw e (λ i. record { stage = p; tail = take-front 241 line (byte ∷ []) i })
 
 ended-by : {s t : Reading} (input : List ℕ) → s ≡ t → ended (withBytes s input) ≡ ended (withBytes t input)
 ended-by input e = ap (λ (x : Reading). ended (withBytes x input)) e
 
-refused-ended : (p : Progress) (line : List ℕ) → (p .refusal ≡ 0 → ⊥) → endedWith p line ≡ p
+refused-ended : (p : Stage) (line : List ℕ) → (p .refusal ≡ 0 → ⊥) → endedWith p line ≡ p
 unfolding endedWith
 refused-ended p [] h = refl
 refused-ended p (byte ∷ line) h = sym (line-refused p (byte ∷ line) h)
 
-refused-byte : (s : Reading) (byte : ℕ) → (s .progress .refusal ≡ 0 → ⊥) → withByte s byte .progress ≡ s .progress
+refused-byte : (s : Reading) (byte : ℕ) → (s .stage .refusal ≡ 0 → ⊥) → withByte s byte .stage ≡ s .stage
 unfolding withByte
 refused-byte s byte h = go (eqb byte newline)
   where
-    go : (t : Bool) → pick {A = Reading} t (record { progress = withLine (s .progress) (s .tail); tail = [] }) (record { progress = s .progress; tail = kept (s .tail) (byte ∷ []) }) .progress ≡ s .progress
-    go true = sym (line-refused (s .progress) (s .tail) h)
+    go : (t : Bool) → pick {A = Reading} t (record { stage = withLine (s .stage) (s .tail); tail = [] }) (record { stage = s .stage; tail = withTail (s .tail) (byte ∷ []) }) .stage ≡ s .stage
+    go true = sym (line-refused (s .stage) (s .tail) h)
     go false = refl
 
 -- Bytes in turn are lines in turn.
 
-unfoldable withLines : Progress → List (List ℕ) → Progress
+unfoldable withLines : Stage → List (List ℕ) → Stage
 withLines p [] = p
 withLines p (line ∷ lines) = withLines (withLine p line) lines
 
-last-line : (p : Progress) (line : List ℕ) → endedWith p (take 241 line) ≡ withLines p (lastOf line)
+last-line : (p : Stage) (line : List ℕ) → endedWith p (take 241 line) ≡ withLines p (lastOf line)
 unfolding withLines lastOf endedWith
 last-line p [] = refl
 last-line p (byte ∷ line) = cut-same p (byte ∷ line)
 
-bytes-lines : (input : List ℕ) (p : Progress) (line : List ℕ) → ended (withBytes (record { progress = p; tail = take 241 line }) input) ≡ withLines p (linesFrom line input)
+bytes-lines : (input : List ℕ) (p : Stage) (line : List ℕ) → ended (withBytes (record { stage = p; tail = take 241 line }) input) ≡ withLines p (linesFrom line input)
 unfolding withBytes linesFrom withLines
 bytes-lines [] p line = last-line p line
 bytes-lines (byte ∷ bytes) p line =
     go (eqb byte newline) refl (bytes-lines bytes (withLine p line) []) (bytes-lines bytes p (line ++ (byte ∷ [])))
   where
-    go : (t : Bool) → eqb byte newline ≡ t → ended (withBytes (record { progress = withLine p line; tail = take 241 [] }) bytes) ≡ withLines (withLine p line) (linesFrom [] bytes) → ended (withBytes (record { progress = p; tail = take 241 (line ++ (byte ∷ [])) }) bytes) ≡ withLines p (linesFrom (line ++ (byte ∷ [])) bytes) → ended (withBytes (withByte (record { progress = p; tail = take 241 line }) byte) bytes) ≡ withLines p (pick t (line ∷ linesFrom [] bytes) (linesFrom (line ++ (byte ∷ [])) bytes))
+    go : (t : Bool) → eqb byte newline ≡ t → ended (withBytes (record { stage = withLine p line; tail = take 241 [] }) bytes) ≡ withLines (withLine p line) (linesFrom [] bytes) → ended (withBytes (record { stage = p; tail = take 241 (line ++ (byte ∷ [])) }) bytes) ≡ withLines p (linesFrom (line ++ (byte ∷ [])) bytes) → ended (withBytes (withByte (record { stage = p; tail = take 241 line }) byte) bytes) ≡ withLines p (pick t (line ∷ linesFrom [] bytes) (linesFrom (line ++ (byte ∷ [])) bytes))
     go true e x y = ended-by bytes (byte-newline p line byte e) ∙ x
     go false e x y = ended-by bytes (byte-other p line byte e) ∙ y
 
 -- A refusal stays.
 
-refused-lines : (p : Progress) (lines : List (List ℕ)) → (p .refusal ≡ 0 → ⊥) → withLines p lines ≡ p
+refused-lines : (p : Stage) (lines : List (List ℕ)) → (p .refusal ≡ 0 → ⊥) → withLines p lines ≡ p
 unfolding withLines
 refused-lines p [] h = refl
-refused-lines p (line ∷ lines) h = ap (λ (q : Progress). withLines q lines) (sym (line-refused p line h)) ∙ refused-lines p lines h
+refused-lines p (line ∷ lines) h = ap (λ (q : Stage). withLines q lines) (sym (line-refused p line h)) ∙ refused-lines p lines h
 
--- after a line that got this refusal
-answered-lines : (refusal number : ℕ) (b : Book) (lines : List (List ℕ)) → printedFor (withLines (after refusal number b) lines) ≡ pick (eqb refusal 0) (printedFor (withLines (record { refusal = 0; number = number + 1; book = b }) lines)) (refusalLine refusal number)
-answered-lines refusal number b lines = go (eqb refusal 0) refl
+-- after a line of this number that got this answer
+answered-lines : (a : Answer) (number : ℕ) (lines : List (List ℕ)) →
+    printedFor (withLines (after a number) lines) ≡ pick (eqb (a .refusal) 0) (printedFor (withLines (record { refusal = 0; number = number + 1; state = a .state }) lines)) (refusalLine (a .refusal) number)
+answered-lines a number lines = go (eqb (a .refusal) 0) refl
   where
-    go : (t : Bool) → eqb refusal 0 ≡ t → printedFor (withLines (record { refusal = refusal; number = pick t (number + 1) number; book = b }) lines) ≡ pick t (printedFor (withLines (record { refusal = 0; number = number + 1; book = b }) lines)) (refusalLine refusal number)
-    go true e = ap (λ (r : ℕ). printedFor (withLines (record { refusal = r; number = number + 1; book = b }) lines)) (eqb-true refusal 0 e)
+    go : (t : Bool) → eqb (a .refusal) 0 ≡ t →
+        printedFor (withLines (record { refusal = a .refusal; number = pick t (number + 1) number; state = a .state }) lines)
+        ≡ pick t (printedFor (withLines (record { refusal = 0; number = number + 1; state = a .state }) lines)) (refusalLine (a .refusal) number)
+    go true e = ap (λ (r : ℕ). printedFor (withLines (record { refusal = r; number = number + 1; state = a .state }) lines)) (eqb-true (a .refusal) 0 e)
     go false e =
-        ap printedFor (refused-lines (record { refusal = refusal; number = number; book = b }) lines (eqb-false refusal 0 e)) ∙ printed-refused (record { refusal = refusal; number = number; book = b }) (eqb-false refusal 0 e)
+        ap printedFor (refused-lines (record { refusal = a .refusal; number = number; state = a .state }) lines (eqb-false (a .refusal) 0 e))
+        ∙ printed-refused (record { refusal = a .refusal; number = number; state = a .state }) (eqb-false (a .refusal) 0 e)
 
-feeding-lines : (lines : List (List ℕ)) (b : Book) (number : ℕ) → 2 ≤ number → printedFor (withLines (record { refusal = 0; number = number; book = b }) lines) ≡ printedFeeding b number lines
+feeding-lines : (lines : List (List ℕ)) (s : State) (number : ℕ) → 2 ≤ number → printedFor (withLines (record { refusal = 0; number = number; state = s }) lines) ≡ printedFeeding s number lines
 unfolding withLines printedFeeding
-feeding-lines [] b number h = printed-end (record { refusal = 0; number = number; book = b }) refl (λ e. omega arith)
-feeding-lines (line ∷ lines) b number h =
-    ap (λ (q : Progress). printedFor (withLines q lines)) (sym (line-fed (record { refusal = 0; number = number; book = b }) line (feeding b line) refl (λ e. omega arith) refl refl))
-    ∙ answered-lines (feeding b line .refusal) number (feeding b line .book) lines
-    ∙ ap (λ (x : List ℕ). pick (eqb (feeding b line .refusal) 0) x (refusalLine (feeding b line .refusal) number)) (feeding-lines lines (feeding b line .book) (number + 1) (omega arith))
+feeding-lines [] s number h = printed-end (record { refusal = 0; number = number; state = s }) refl (λ e. omega arith)
+feeding-lines (line ∷ lines) s number h =
+    ap (λ (q : Stage). printedFor (withLines q lines)) (sym (line-fed (record { refusal = 0; number = number; state = s }) line refl (λ e. omega arith)))
+    ∙ answered-lines (feeding s line) number lines
+    ∙ ap (λ (x : List ℕ). pick (eqb (feeding s line .refusal) 0) x (refusalLine (feeding s line .refusal) number)) (feeding-lines lines (feeding s line .state) (number + 1) (omega arith))
 
 start-lines : (lines : List (List ℕ)) → printedFor (withLines atStart lines) ≡ printedLines lines
 unfolding withLines printedLines
 start-lines [] = printed-empty atStart refl refl
 start-lines (line ∷ lines) =
-    ap (λ (q : Progress). printedFor (withLines q lines)) (sym (line-opens atStart line (opening line) refl refl refl refl))
-    ∙ answered-lines (opening line .refusal) 1 (opening line .book) lines
-    ∙ ap (λ (x : List ℕ). pick (eqb (opening line .refusal) 0) x (refusalLine (opening line .refusal) 1)) (feeding-lines lines (opening line .book) 2 (omega arith))
+    ap (λ (q : Stage). printedFor (withLines q lines)) (sym (line-opens atStart line refl refl))
+    ∙ answered-lines (opening line) 1 lines
+    ∙ ap (λ (x : List ℕ). pick (eqb (opening line .refusal) 0) x (refusalLine (opening line .refusal) 1)) (feeding-lines lines (opening line .state) 2 (omega arith))
 
 -- What is printed is a function of the whole input.
-pub whole : (input : List ℕ) → printedFor (ended (withBytes (record { progress = atStart; tail = [] }) input)) ≡ printed input
+pub whole : (input : List ℕ) → printedFor (ended (withBytes fromStart input)) ≡ printed input
 whole input = ap printedFor (bytes-lines input atStart []) ∙ start-lines (linesOf input)
 
--- A run from its start: the input that its parts make so far.
-pub data Steps : Run → (tail input : List ℕ) → Type 0 where
-  started : (tail : List ℕ) → Steps (record { progress = atStart; held = 0 }) tail []
-  stepped : {r : Run} {tail input : List ℕ} → Steps r tail input → (q : Run) (after part : List ℕ) → readingOf q after ≡ withBytes (readingOf r tail) part → Steps q after (input ++ part)
-
--- what it has read
-pub read-so-far : {r : Run} {tail input : List ℕ} → Steps r tail input → readingOf r tail ≡ withBytes (record { progress = atStart; tail = [] }) input
+-- After a refusal the rest of the input changes nothing.
+refused-stays : (input : List ℕ) (s : Reading) → (s .stage .refusal ≡ 0 → ⊥) → printedFor (ended (withBytes s input)) ≡ printedFor (s .stage)
 unfolding withBytes
-read-so-far (started tail) = refl
-read-so-far (stepped {r} {tail} {input} s q after part e) =
-    e ∙ ap (λ (x : Reading). withBytes x part) (read-so-far s) ∙ sym (bytes-append (record { progress = atStart; tail = [] }) input part)
-
--- However the reads cut the input, what `finish` writes after the last step is what is printed of the whole.
-pub prints : {r : Run} {tail input old new : List ℕ} {n : ℕ} → Steps r tail input → Written old (printedFor (ended (readingOf r tail))) n new → Written old (printed input) n new
-prints {r} {tail} {input} {old} {new} {n} s w =
-    subst (λ (t : List ℕ). Written old t n new) (ap (λ (x : Reading). printedFor (ended x)) (read-so-far s) ∙ whole input) w
-
--- After a refusal the rest of the input changes nothing: the reads may stop there.
-pub refused-stays : (input : List ℕ) (s : Reading) → (s .progress .refusal ≡ 0 → ⊥) → printedFor (ended (withBytes s input)) ≡ printedFor (s .progress)
-unfolding withBytes
-refused-stays [] s h = ap printedFor (refused-ended (s .progress) (s .tail) h)
+refused-stays [] s h = ap printedFor (refused-ended (s .stage) (s .tail) h)
 refused-stays (byte ∷ bytes) s h =
-    let e : withByte s byte .progress ≡ s .progress = refused-byte s byte h in
-    refused-stays bytes (withByte s byte) (λ z. h (ap (λ (p : Progress). p .refusal) (sym e) ∙ z)) ∙ ap printedFor e
+    let e : withByte s byte .stage ≡ s .stage = refused-byte s byte h in
+    refused-stays bytes (withByte s byte) (λ z. h (ap (λ (p : Stage). p .refusal) (sym e) ∙ z)) ∙ ap printedFor e
+
+-- A line over 240 bytes is refused whatever follows, or a line before it was.
+long-refused : (p : Stage) (line : List ℕ) → 240 < length line → withLine p line .refusal ≡ 0 → ⊥
+unfolding withLine openingFor feedingLine refusalFor contentKind
+long-refused p line h = go (eqb (p .refusal) 0) refl (eqb (p .number) 1)
+  where
+    go : (a : Bool) → eqb (p .refusal) 0 ≡ a → (b : Bool) → pick {A = Stage} a (after (pick b (opening line) (feeding (p .state) line)) (p .number)) p .refusal ≡ 0 → ⊥
+    go true f true e = let k : openingFor (HeaderRefusal 1) .refusal ≡ 0 = rw (header-reading line .refused1 .1 h) at e in omega (arith, k)
+    go true f false e = let k : feedingLine (p .state) (Refusal 1) .refusal ≡ 0 = rw (line-reading line .refused1 .1 h) at e in omega (arith, k)
+    go false f b e = eqb-false (p .refusal) 0 f e
+
+ended-long : (p : Stage) (line : List ℕ) → 240 < length line → endedWith p line ≡ withLine p line
+unfolding endedWith
+ended-long p [] h = absurd (omega arith)
+ended-long p (byte ∷ line) h = refl
+
+long-stays : (input : List ℕ) (p : Stage) (line : List ℕ) → 240 < length line → length line ≤ 241 → printedFor (ended (withBytes (record { stage = p; tail = line }) input)) ≡ printedFor (withLine p line)
+unfolding withBytes withByte
+long-stays [] p line h k = ap printedFor (ended-long p line h)
+long-stays (byte ∷ bytes) p line h k = go (eqb byte newline) (long-stays bytes p line h k)
+  where
+    -- the line stays as it is, of which 241 bytes are held
+    same : withTail line (byte ∷ []) ≡ line
+    same = take-append-le 241 line (byte ∷ []) (omega arith) ∙ take-all 241 line k
+
+    go : (t : Bool) → printedFor (ended (withBytes (record { stage = p; tail = line }) bytes)) ≡ printedFor (withLine p line) →
+        printedFor (ended (withBytes (pick {A = Reading} t (record { stage = withLine p line; tail = [] }) (record { stage = p; tail = withTail line (byte ∷ []) })) bytes)) ≡ printedFor (withLine p line)
+    go true ih = refused-stays bytes (record { stage = withLine p line; tail = [] }) (long-refused p line h)
+    go false ih = ap (λ (l : List ℕ). printedFor (ended (withBytes (record { stage = p; tail = l }) bytes))) same ∙ ih
+
+-- no more than 241 bytes are held
+held-few : (input : List ℕ) (s : Reading) → length (s .tail) ≤ 241 → length (withBytes s input .tail) ≤ 241
+unfolding withBytes withByte
+held-few [] s h = h
+held-few (byte ∷ bytes) s h = held-few bytes (withByte s byte) (go (eqb byte newline))
+  where
+    go : (t : Bool) → length (pick {A = Reading} t (record { stage = withLine (s .stage) (s .tail); tail = [] }) (record { stage = s .stage; tail = withTail (s .tail) (byte ∷ []) }) .tail) ≤ 241
+    go true = omega arith
+    go false = rw (length-take 241 (s .tail ++ (byte ∷ []))) (omega arith)
+
+pub settled : (s : Reading) → length (s .tail) ≤ 241 → Settled s → (more : List ℕ) → printedFor (ended (withBytes s more)) ≡ printedFor (ended s)
+settled s k h more = ⊎-elim (λ r. refused-stays more s r ∙ sym (ap printedFor (refused-ended (s .stage) (s .tail) r)))
+    (λ l. long-stays more (s .stage) (s .tail) l k ∙ sym (ap printedFor (ended-long (s .stage) (s .tail) l))) h
+
+pub stops : (input more : List ℕ) → Settled (withBytes fromStart input) → printed (input ++ more) ≡ printed input
+stops input more h =
+    sym (whole (input ++ more)) ∙ ap (λ (x : Reading). printedFor (ended x)) (bytes-append fromStart input more)
+    ∙ settled (withBytes fromStart input) (held-few input fromStart (omega arith)) h more ∙ whole input

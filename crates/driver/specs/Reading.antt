@@ -7,30 +7,37 @@ use lib.Dec.{eqb}
 use lib.ListN.{length, take}
 use Rattle.exact.specs.Choice.{pick}
 use Rattle.book_model.specs.declared.Book.{Book}
-use Rattle.book_model.specs.Calls.{zeroHeader, emptyBook, opening, feeding, Sound}
+use Rattle.book_model.specs.Calls.{State, Answer, stateAt, zeroHeader, emptyState, opening, feeding, Sound}
+use Rattle.book_model.specs.Terms.{termsWith}
 use Rattle.driver.specs.declared.Progress.{Progress}
 use Rattle.driver.specs.declared.Run.{Run}
 
--- before any byte: line 1 is to be read
-abbrev pub atStart : Progress
-atStart = record { refusal = 0; number = 1; book = emptyBook zeroHeader }
+-- What the lines read so far gave: the refusal, 0 for none, the number of the line to be read or of the refused one, and the book.
+pub record Stage : Type 0 where
+  pub refusal : ℕ
+  pub number : ℕ
+  pub state : State
 
--- after a line that got this refusal, 0 for none: the next line is read, or the refused one stays
-abbrev pub after : (refusal number : ℕ) → Book → Progress
-after refusal number b = record { refusal = refusal; number = pick (eqb refusal 0) (number + 1) number; book = b }
+-- before any byte: line 1 is to be read
+abbrev pub atStart : Stage
+atStart = record { refusal = 0; number = 1; state = emptyState (termsWith zeroHeader) }
+
+-- after a line of this number that got this answer: the next line is read, or the refused one stays
+abbrev pub after : Answer → (number : ℕ) → Stage
+after a number = record { refusal = a .refusal; number = pick (eqb (a .refusal) 0) (number + 1) number; state = a .state }
 
 -- A line is read: the first opens the book, any other is fed. After a refusal nothing more is.
-unfoldable pub withLine : Progress → List ℕ → Progress
+unfoldable pub withLine : Stage → List ℕ → Stage
 withLine p line =
-    pick (eqb (p .refusal) 0)
-    (pick (eqb (p .number) 1) (after (opening line .refusal) (p .number) (opening line .book))
-    (after (feeding (p .book) line .refusal) (p .number) (feeding (p .book) line .book)))
-    p
+    pick (eqb (p .refusal) 0) (after (pick (eqb (p .number) 1) (opening line) (feeding (p .state) line)) (p .number)) p
 
 -- what is read, and the bytes of a line not yet ended
 pub record Reading : Type 0 where
-  pub progress : Progress
+  pub stage : Stage
   pub tail : List ℕ
+
+abbrev pub fromStart : Reading
+fromStart = record { stage = atStart; tail = [] }
 
 -- the byte that ends a line
 abbrev pub newline : ℕ
@@ -42,29 +49,38 @@ unbroken [] = true
 unbroken (byte ∷ bytes) = not (eqb byte newline) && unbroken bytes
 
 -- A line with more bytes. Beyond 240 bytes a line is refused whatever they are, so 241 are enough.
-abbrev pub kept : (line bytes : List ℕ) → List ℕ
-kept line bytes = take 241 (line ++ bytes)
+abbrev pub mostHeld : ℕ
+mostHeld = 241
+
+abbrev pub withTail : (line bytes : List ℕ) → List ℕ
+withTail line bytes = take mostHeld (line ++ bytes)
 
 -- A newline ends the line; any other byte is added to it.
 unfoldable pub withByte : Reading → ℕ → Reading
 withByte s byte =
-    pick (eqb byte newline) (record { progress = withLine (s .progress) (s .tail); tail = [] })
-    (record { progress = s .progress; tail = kept (s .tail) (byte ∷ []) })
+    pick (eqb byte newline) (record { stage = withLine (s .stage) (s .tail); tail = [] })
+    (record { stage = s .stage; tail = withTail (s .tail) (byte ∷ []) })
 
 -- the bytes of an input in turn
 unfoldable pub withBytes : Reading → List ℕ → Reading
 withBytes s [] = s
 withBytes s (byte ∷ bytes) = withBytes (withByte s byte) bytes
 
--- the reading that a run with its lent bytes stands for
-abbrev pub readingOf : Run → List ℕ → Reading
-readingOf r tail = record { progress = r .progress; tail = take (r .held) tail }
+-- The code's structs: what they stand for, with the tables lent beside them.
 
--- What every run assures: its book is sound, and each accepted line is counted.
-pub record Underway (p : Progress) : Type 0 where
-  pub sound : Sound (p .book)
-  pub number : p .number ≤ 2 + (p .book .sums .loans + p .book .sums .other)
+abbrev pub stageAt : Progress → (rates : List ℕ) → Stage
+stageAt p rates = record { refusal = p .refusal; number = p .number; state = stateAt (p .book) rates }
 
-pub record Running (r : Run) : Type 0 where
-  pub progress : Underway (r .progress)
-  pub held : r .held ≤ 241
+abbrev pub progressAfter : (refusal number : ℕ) → Book → Progress
+progressAfter refusal number b = record { refusal = refusal; number = pick (eqb refusal 0) (number + 1) number; book = b }
+
+abbrev pub readingOf : Run → (rates : List ℕ) → Reading
+readingOf r rates = record { stage = stageAt (r .progress) rates; tail = take (r .held) (r .tail) }
+
+-- What every run assures: its book is sound, each line read had a byte that ended it, and no byte that is held ends a line.
+pub record Running (r : Run) (rates : List ℕ) : Type 0 where
+  pub sound : Sound (stateAt (r .progress .book) rates)
+  pub number : r .progress .number ≤ 1 + r .read
+  pub held : r .held ≤ mostHeld
+  pub room : length (r .tail) ≡ 242
+  pub unended : unbroken (take (r .held) (r .tail)) ≡ true

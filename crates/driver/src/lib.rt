@@ -2,17 +2,24 @@
 mod newlines;
 
 ghost use mathlib.Core.Path.{_≡_};
-ghost use mathlib.Core.List.{[], _∷_, _++_};
-ghost use Prim.Native.Nat.{_≤_};
-ghost use lib.ListN.{length, take};
+ghost use mathlib.Core.Bool.{true};
+ghost use mathlib.Core.List.{[], _∷_};
+ghost use Prim.Native.Nat.{_+_, _^_, _≤_, _<_};
+ghost use lib.ListN.{length, take, drop};
 ghost use Rattle.loan_charge.specs.Tables.{exponentials};
 ghost use Rattle.loan_charge.specs.CreditFactor.{builtInRates};
 ghost use Rattle.report.specs.Line.{Written};
-ghost use Rattle.book_model.specs.Calls.{Sound};
-ghost use Rattle.driver.specs.Reading.{atStart, after, withLine, kept, withBytes, readingOf, Underway, Running};
-ghost use Rattle.driver.specs.Printed.{printedFor, ended, printed};
+ghost use Rattle.book_model.specs.Calls.{stateAt, reportSize, Sound};
+ghost use Rattle.driver.specs.Reading.{fromStart, withLine, unbroken, mostHeld, withTail, withBytes, progressAfter, stageAt, readingOf, Running};
+ghost use Rattle.driver.specs.Printed.{printedFor, ended, PrintsWhole};
 use book_model::Book;
 use line_forms::Header;
+
+// So many bytes of a line not yet ended are held: beyond 240 a line is refused whatever they are.
+const MOST_HELD: usize = 241;
+
+// Room for them and for the newline that ends the line.
+const TAIL: usize = 242;
 
 // What the lines read so far gave: the refusal, 0 for none, the number of the line to be read or of the refused one, and the book.
 pub struct Progress {
@@ -21,16 +28,26 @@ pub struct Progress {
     pub book: Book,
 }
 
-// A run between two parts of the input. `held` counts the bytes, lent beside it, of a line not yet ended.
+// A run between two parts of the input: `held` counts the bytes of a line not yet ended, at the start of `tail`, and `read` all bytes
+// read so far.
 pub struct Run {
     pub progress: Progress,
     pub held: usize,
+    pub tail: [u8; TAIL],
+    pub read: usize,
+}
+
+fn no_bytes() -> [u8; TAIL]
+    ensures { λ r. ⌜ length r ≡ 242 ⌝ }
+{
+    [0; TAIL]
 }
 
 // Before any byte is read.
 pub fn start() -> Run
-    ensures equation { λ r. ⌜ r ≡ record { progress = atStart; held = 0 } ⌝ }
-    ensures running { λ r. ⌜ Running r ⌝ }
+    ensures equation { λ r. ⌜ readingOf r builtInRates ≡ fromStart ⌝ }
+    ensures running { λ r. ⌜ Running r builtInRates ⌝ }
+    ensures none { λ r. ⌜ r .read ≡ 0 ⌝ }
 {
     let header = Header {
         loans: 0,
@@ -49,12 +66,15 @@ pub fn start() -> Run
             book,
         },
         held: 0,
+        tail: no_bytes(),
+        read: 0,
     }
 }
 
+// After a line of this number that got this refusal and book.
 fn answered(refusal: u64, number: u64, book: Book) -> Progress
-    requires { ⌜ number ≤ 2000000 ⌝ }
-    ensures { λ r. ⌜ r ≡ after refusal number book ⌝ }
+    requires { ⌜ number < 2 ^ 63 ⌝ }
+    ensures { λ r. ⌜ r ≡ progressAfter refusal number book ⌝ }
 {
     if refusal == 0 {
         return Progress {
@@ -72,9 +92,10 @@ fn answered(refusal: u64, number: u64, book: Book) -> Progress
 
 // A whole line is read.
 fn end_line(p: Progress, exps: &[u64; 1537], rates: &[u64; 66], line: &[u8]) -> Progress
-    requires { ⌜ Underway p × (now exps ≡ exponentials) × (now rates ≡ builtInRates) ⌝ }
-    ensures equation { λ r. ⌜ r ≡ withLine p (now (line .entry)) ⌝ }
-    ensures underway { λ r. ⌜ Underway r ⌝ }
+    requires { ⌜ Sound (stateAt (p .book) (now rates)) × (p .number < 2 ^ 63) × (now exps ≡ exponentials) × (now rates ≡ builtInRates) ⌝ }
+    ensures equation { λ r. ⌜ stageAt r (now (rates .entry)) ≡ withLine (stageAt p (now (rates .entry))) (now (line .entry)) ⌝ }
+    ensures sound { λ r. ⌜ Sound (stateAt (r .book) (now (rates .entry))) ⌝ }
+    ensures number { λ r. ⌜ r .number ≤ p .number + 1 ⌝ }
 {
     if p.refusal != 0 {
         return p;
@@ -91,13 +112,49 @@ fn end_line(p: Progress, exps: &[u64; 1537], rates: &[u64; 66], line: &[u8]) -> 
     answered(fed.refusal, number, book)
 }
 
-// A byte is added to a line not yet ended, of which at most 241 bytes are held.
-fn keep(tail: &mut [u8], held: usize, byte: u8) -> usize
-    requires { ⌜ (held ≤ 241) × (length (now tail) ≡ 241) ⌝ }
-    ensures equation { λ r. ⌜ take r (now (tail .exit)) ≡ kept (take held (now (tail .entry))) (byte ∷ []) ⌝ }
-    ensures few { λ r. ⌜ r ≤ 241 ⌝ }
+// The lines of a part of the input that end in it, and where the rest of it begins.
+struct LinesRead {
+    progress: Progress,
+    rest: usize,
+}
+
+// Every line that ends in the bytes is read. Here alone a line is fed, so that the book is copied once and not at every call.
+fn lines(before: Progress, exps: &[u64; 1537], rates: &[u64; 66], bytes: &[u8]) -> LinesRead
+    requires { ⌜ Sound (stateAt (before .book) (now rates)) × (before .number + length (now bytes) < 2 ^ 63) × (now exps ≡ exponentials) × (now rates ≡ builtInRates) ⌝ }
+    ensures equation { λ r.
+        ⌜ record { stage = stageAt (r .progress) (now (rates .entry)); tail = [] } ≡
+        withBytes (record { stage = stageAt before (now (rates .entry)); tail = [] }) (take (r .rest) (now (bytes .entry))) ⌝ }
+    ensures rest { λ r. ⌜ (r .rest ≤ length (now (bytes .entry))) × (unbroken (drop (r .rest) (now (bytes .entry))) ≡ true) ⌝ }
+    ensures sound { λ r. ⌜ Sound (stateAt (r .progress .book) (now (rates .entry))) ⌝ }
+    ensures number { λ r. ⌜ r .progress .number ≤ before .number + r .rest ⌝ }
 {
-    if held < 241 {
+    let size = bytes.len();
+    let mut p = before;
+    let mut i = 0;
+    while i < size {
+        let end = newlines::line_end(bytes, i);
+        if size <= end {
+            return LinesRead {
+                progress: p,
+                rest: i,
+            };
+        }
+        p = end_line(p, exps, rates, &bytes[i..end]);
+        i = end + 1;
+    }
+    LinesRead {
+        progress: p,
+        rest: i,
+    }
+}
+
+// A byte is added to a line not yet ended.
+fn keep(tail: &mut [u8], held: usize, byte: u8) -> usize
+    requires { ⌜ (held ≤ mostHeld) × (length (now tail) ≡ 242) ⌝ }
+    ensures equation { λ r. ⌜ take r (now (tail .exit)) ≡ withTail (take held (now (tail .entry))) (byte ∷ []) ⌝ }
+    ensures few { λ r. ⌜ r ≤ mostHeld ⌝ }
+{
+    if held < MOST_HELD {
         tail[held] = byte;
         return held + 1;
     }
@@ -106,9 +163,9 @@ fn keep(tail: &mut [u8], held: usize, byte: u8) -> usize
 
 // Bytes are added to a line not yet ended.
 fn hold(tail: &mut [u8], held: usize, bytes: &[u8]) -> usize
-    requires { ⌜ (held ≤ 241) × (length (now tail) ≡ 241) ⌝ }
-    ensures equation { λ r. ⌜ take r (now (tail .exit)) ≡ kept (take held (now (tail .entry))) (now (bytes .entry)) ⌝ }
-    ensures few { λ r. ⌜ r ≤ 241 ⌝ }
+    requires { ⌜ (held ≤ mostHeld) × (length (now tail) ≡ 242) ⌝ }
+    ensures equation { λ r. ⌜ take r (now (tail .exit)) ≡ withTail (take held (now (tail .entry))) (now (bytes .entry)) ⌝ }
+    ensures few { λ r. ⌜ r ≤ mostHeld ⌝ }
 {
     let mut n = held;
     let mut i = 0;
@@ -119,57 +176,87 @@ fn hold(tail: &mut [u8], held: usize, bytes: &[u8]) -> usize
     n
 }
 
-// A line is read of which `held` bytes came with earlier parts of the input and the others with this one.
+// The line that is held is ended, and read.
 fn end_held(
     p: Progress,
     tail: &mut [u8],
     held: usize,
     exps: &[u64; 1537],
     rates: &[u64; 66],
-    others: &[u8],
 ) -> Progress
-    requires { ⌜ Underway p × (now exps ≡ exponentials) × (now rates ≡ builtInRates) × (held ≤ 241) × (length (now tail) ≡ 241) ⌝ }
-    ensures equation { λ r. ⌜ r ≡ withLine p (take held (now (tail .entry)) ++ now (others .entry)) ⌝ }
-    ensures underway { λ r. ⌜ Underway r ⌝ }
+    requires { ⌜ Sound (stateAt (p .book) (now rates)) × (p .number + 242 < 2 ^ 63) × (now exps ≡ exponentials) × (now rates ≡ builtInRates) × (held ≤ mostHeld) × (length (now tail) ≡ 242) × (unbroken (take held (now tail)) ≡ true) ⌝ }
+    ensures equation { λ r. ⌜ stageAt r (now (rates .entry)) ≡ withLine (stageAt p (now (rates .entry))) (take held (now (tail .entry))) ⌝ }
+    ensures sound { λ r. ⌜ Sound (stateAt (r .book) (now (rates .entry))) ⌝ }
+    ensures number { λ r. ⌜ r .number ≤ p .number + 1 ⌝ }
 {
-    if 0 < held {
-        let n = hold(tail, held, others);
-        return end_line(p, exps, rates, &tail[0..n]);
+    tail[held] = b'\n';
+    let end = held + 1;
+    let read = lines(p, exps, rates, &tail[0..end]);
+    read.progress
+}
+
+// Bytes are read from a place where a line begins; `read` counts them already.
+fn read_lines(
+    p: Progress,
+    before: [u8; TAIL],
+    exps: &[u64; 1537],
+    rates: &[u64; 66],
+    bytes: &[u8],
+    read: usize,
+) -> Run
+    requires { ⌜ Sound (stateAt (p .book) (now rates)) × (p .number + length (now bytes) ≤ 1 + read) × (read ≤ 2 ^ 62) × (now exps ≡ exponentials) × (now rates ≡ builtInRates) × (length before ≡ 242) ⌝ }
+    ensures equation { λ r. ⌜ readingOf r (now (rates .entry)) ≡ withBytes (record { stage = stageAt p (now (rates .entry)); tail = [] }) (now (bytes .entry)) ⌝ }
+    ensures running { λ r. ⌜ Running r (now (rates .entry)) ⌝ }
+    ensures read { λ r. ⌜ r .read ≡ read ⌝ }
+{
+    let size = bytes.len();
+    let all = lines(p, exps, rates, bytes);
+    let rest = all.rest;
+    let mut tail = before;
+    let held = hold(&mut tail, 0, &bytes[rest..size]);
+    let progress = all.progress;
+    Run {
+        progress,
+        held,
+        tail,
+        read,
     }
-    end_line(p, exps, rates, others)
 }
 
 // A part of the input is read.
-pub fn step(run: Run, tail: &mut [u8], exps: &[u64; 1537], rates: &[u64; 66], chunk: &[u8]) -> Run
-    requires { ⌜ Running run × (now exps ≡ exponentials) × (now rates ≡ builtInRates) × (length (now tail) ≡ 241) ⌝ }
-    ensures equation { λ r. ⌜ readingOf r (now (tail .exit)) ≡ withBytes (readingOf run (now (tail .entry))) (now (chunk .entry)) ⌝ }
-    ensures running { λ r. ⌜ Running r ⌝ }
+pub fn step(run: Run, exps: &[u64; 1537], rates: &[u64; 66], chunk: &[u8]) -> Run
+    requires { ⌜ Running run (now rates) × (run .read + length (now chunk) ≤ 2 ^ 62) × (now exps ≡ exponentials) × (now rates ≡ builtInRates) ⌝ }
+    ensures equation { λ r. ⌜ readingOf r (now (rates .entry)) ≡ withBytes (readingOf run (now (rates .entry))) (now (chunk .entry)) ⌝ }
+    ensures running { λ r. ⌜ Running r (now (rates .entry)) ⌝ }
+    ensures read { λ r. ⌜ r .read ≡ run .read + length (now (chunk .entry)) ⌝ }
 {
     let size = chunk.len();
-    let mut p = run.progress;
-    let mut held = run.held;
-    let mut i = 0;
-    while i < size {
-        let end = newlines::line_end(chunk, i);
-        let part = &chunk[i..end];
-        if size <= end {
-            let n = hold(tail, held, part);
-            return Run {
-                progress: p,
-                held: n,
-            };
-        }
-        p = end_held(p, tail, held, exps, rates, part);
-        held = 0;
-        i = end + 1;
+    let read = run.read + size;
+    let p = run.progress;
+    let held = run.held;
+    let mut tail = run.tail;
+    if held == 0 {
+        return read_lines(p, tail, exps, rates, chunk, read);
     }
-    Run { progress: p, held }
+    let end = newlines::line_end(chunk, 0);
+    let n = hold(&mut tail, held, &chunk[0..end]);
+    if size <= end {
+        return Run {
+            progress: p,
+            held: n,
+            tail,
+            read,
+        };
+    }
+    let next = end_held(p, &mut tail, n, exps, rates);
+    let from = end + 1;
+    read_lines(next, tail, exps, rates, &chunk[from..size], read)
 }
 
 // Writes what is printed where the lines end.
 fn put_answer(p: Progress, out: &mut [u8]) -> usize
-    requires { ⌜ Underway p × (512 ≤ length (now out)) ⌝ }
-    ensures { λ r. ⌜ Written (now (out .entry)) (printedFor p) r (now (out .exit)) ⌝ }
+    requires { ⌜ Sound (stateAt (p .book) builtInRates) × (reportSize ≤ length (now out)) ⌝ }
+    ensures { λ r. ⌜ Written (now (out .entry)) (printedFor (stageAt p builtInRates)) r (now (out .exit)) ⌝ }
 {
     let refusal = p.refusal;
     let number = p.number;
@@ -188,27 +275,17 @@ fn put_answer(p: Progress, out: &mut [u8]) -> usize
 }
 
 // The end of the input: what is to be printed is written to the lent buffer.
-pub fn finish(run: Run, tail: &[u8], exps: &[u64; 1537], rates: &[u64; 66], out: &mut [u8]) -> usize
-    requires { ⌜ Running run × (now exps ≡ exponentials) × (now rates ≡ builtInRates) × (length (now tail) ≡ 241) × (512 ≤ length (now out)) ⌝ }
-    ensures { λ r. ⌜ Written (now (out .entry)) (printedFor (ended (readingOf run (now (tail .entry))))) r (now (out .exit)) ⌝ }
+pub fn finish(run: Run, exps: &[u64; 1537], rates: &[u64; 66], out: &mut [u8]) -> usize
+    requires { ⌜ Running run (now rates) × (run .read ≤ 2 ^ 62) × (now exps ≡ exponentials) × (now rates ≡ builtInRates) × (reportSize ≤ length (now out)) ⌝ }
+    ensures equation { λ r. ⌜ Written (now (out .entry)) (printedFor (ended (readingOf run (now (rates .entry))))) r (now (out .exit)) ⌝ }
+    ensures whole { λ r. ⌜ PrintsWhole (readingOf run (now (rates .entry))) (now (out .entry)) r (now (out .exit)) ⌝ }
 {
     let p = run.progress;
-    let held = run.held;
-    if held == 0 {
+    let unended = run.held;
+    if unended == 0 {
         return put_answer(p, out);
     }
-    let last = end_line(p, exps, rates, &tail[0..held]);
+    let mut tail = run.tail;
+    let last = end_held(p, &mut tail, unended, exps, rates);
     put_answer(last, out)
-}
-
-// Writes what is printed of a whole input.
-pub fn print_input(input: &[u8], out: &mut [u8]) -> usize
-    requires { ⌜ 512 ≤ length (now out) ⌝ }
-    ensures { λ r. ⌜ Written (now (out .entry)) (printed (now (input .entry))) r (now (out .exit)) ⌝ }
-{
-    let exps = loan_charge::charge::table();
-    let rates = loan_charge::credit::rates();
-    let mut tail = [0u8; 241];
-    let run = step(start(), &mut tail, &exps, &rates, input);
-    finish(run, &tail, &exps, &rates, out)
 }

@@ -8,12 +8,11 @@ use native.Mathlib.Omega.{arith}
 use lib.Dec.{eqb}
 use borrow.Author.Tests.{eqb-false}
 use Rattle.fixed_point.specs.declared.Signed.{Signed}
-use Rattle.figures.specs.declared.Money.{Money}
 use Rattle.figures.specs.declared.Sums.{Sums}
 use Rattle.figures.specs.declared.Ratio.the-variants.{Number, None}
-use Rattle.figures.specs.Sums.{inParts, Bounded, InLimits}
+use Rattle.figures.specs.Sums.{Bounded, InLimits}
 use Rattle.exact.specs.Choice.{pick}
-use Rattle.figures.specs.Figures.{difference, wholeCents, requiredOf, positiveEquity, admitted, capitalOf, ratioSize, ratioOf, figuresOf, Within, RatioBounds, FigureBounds}
+use Rattle.figures.specs.Figures.{difference, requiredOf, positiveEquity, admitted, capitalOf, ratioSize, ratioOf, figuresOf, Within, RatioBounds, FigureBounds}
 
 -- what is admitted of b and c is no more than both
 pub admitted-le : (e b c : ℕ) → admitted e b c ≤ b + c
@@ -72,10 +71,3 @@ figures-bounded held s h k = record {
   capital = capital-within (s .equity) (s .aoci) (s .b) (s .c) _ _ (omega arith) (omega arith);
   ratio = ratio-bounded _ _;
 }
-
--- whole cents are the least that hold an exact amount
-pub whole-cents-low : (x : Money) → inParts x ≤ wholeCents x * 10000000
-whole-cents-low x = omega arith
-
-pub whole-cents-high : (x : Money) → wholeCents x * 10000000 < inParts x + 10000000
-whole-cents-high x = omega arith

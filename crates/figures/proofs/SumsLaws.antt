@@ -9,9 +9,9 @@ use Rattle.figures.specs.Sums.{moneySum, moneyOf, inParts, noSums, plus,
 
 -- two sums are equal when their fields are
 pub record Same (x y : Sums) : Type 0 where
-  pub loans : x .loans ≡ y .loans
-  pub unscored : x .unscored ≡ y .unscored
-  pub other : x .other ≡ y .other
+  pub loans : x .counts .loans ≡ y .counts .loans
+  pub unscored : x .counts .unscored ≡ y .counts .unscored
+  pub other : x .counts .other ≡ y .counts .other
   pub total-plus : x .total .plus ≡ y .total .plus
   pub total-minus : x .total .minus ≡ y .total .minus
   pub supplement-plus : x .supplement .plus ≡ y .supplement .plus
@@ -29,9 +29,7 @@ pub record Same (x y : Sums) : Type 0 where
 
 pub same : {x y : Sums} → Same x y → x ≡ y
 same h = λ i. record {
-  loans = h .loans i;
-  unscored = h .unscored i;
-  other = h .other i;
+  counts = record { loans = h .loans i; unscored = h .unscored i; other = h .other i };
   total = record { plus = h .total-plus i; minus = h .total-minus i };
   supplement = record { plus = h .supplement-plus i; minus = h .supplement-minus i };
   rest = record { cents = h .rest-cents i; parts = h .rest-parts i };
@@ -88,9 +86,6 @@ sum-permuted (List·Permᴰ·trans p q) = sum-permuted p ∙ sum-permuted q
 
 pub money-whole : (n : ℕ) → inParts (moneyOf n) ≡ n
 money-whole n = omega arith
-
-pub money-parts : (n : ℕ) → moneyOf n .parts ≤ 9999999
-money-parts n = omega arith
 
 pub money-added : (x y : Money) → inParts (moneySum x y) ≡ inParts x + inParts y
 money-added x y = omega arith

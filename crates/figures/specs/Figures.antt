@@ -77,7 +77,7 @@ figuresFrom held rest moved s =
     let required = requiredOf (s .total) held rest (s .supplement) in
     let capital = capitalOf (s .equity) (s .aoci) (s .b) (s .c) in
     record {
-      loans = s .loans;
+      loans = s .counts .loans;
       total = difference (s .total .plus) (s .total .minus);
       supplement = difference (s .supplement .plus) (s .supplement .minus);
       home = homeOf (s .total) held;

@@ -2,6 +2,7 @@
 use Prim.Native.Nat.{ℕ, _+_, _*_, _/_, _%_, _≤_}
 use mathlib.Core.List.{List, [], _∷_}
 use Rattle.fixed_point.specs.declared.Signed.{Signed}
+use Rattle.figures.specs.declared.Counts.{Counts}
 use Rattle.figures.specs.declared.Money.{Money}
 use Rattle.figures.specs.declared.Sums.{Sums}
 
@@ -26,12 +27,21 @@ moneyOf n = record { cents = n / 10000000; parts = n % 10000000 }
 abbrev pub inParts : Money → ℕ
 inParts x = x .cents * 10000000 + x .parts
 
+-- the counts of no line
+abbrev pub noCounts : Counts
+noCounts = record { loans = 0; unscored = 0; other = 0 }
+
+abbrev pub countsSum : Counts → Counts → Counts
+countsSum x y = record {
+  loans = x .loans + y .loans;
+  unscored = x .unscored + y .unscored;
+  other = x .other + y .other;
+}
+
 -- the sums of no line
 abbrev pub noSums : Sums
 noSums = record {
-  loans = 0;
-  unscored = 0;
-  other = 0;
+  counts = noCounts;
   total = zeroSigned;
   supplement = zeroSigned;
   rest = zeroMoney;
@@ -45,9 +55,7 @@ noSums = record {
 -- two sums together, field by field
 abbrev pub plus : Sums → Sums → Sums
 plus x y = record {
-  loans = x .loans + y .loans;
-  unscored = x .unscored + y .unscored;
-  other = x .other + y .other;
+  counts = countsSum (x .counts) (y .counts);
   total = signedSum (x .total) (y .total);
   supplement = signedSum (x .supplement) (y .supplement);
   rest = moneySum (x .rest) (y .rest);
@@ -66,23 +74,23 @@ sumOf (x ∷ xs) = plus x (sumOf xs)
 -- Every sum is bounded by a multiple of the lines counted, so that bounded sums add up to bounded sums.
 -- A loan's numbers lie within -100,000 and 300,000,000 cents; the largest other line is a derivative.
 pub record Bounded (s : Sums) : Type 0 where
-  pub unscored : s .unscored ≤ s .loans
-  pub total-plus : s .total .plus ≤ 300000000 * s .loans
-  pub total-minus : s .total .minus ≤ 100000 * s .loans
-  pub supplement-plus : s .supplement .plus ≤ 300000000 * s .loans
-  pub supplement-minus : s .supplement .minus ≤ 100000 * s .loans
-  pub rest-cents : s .rest .cents ≤ 1610000000000 * s .other
-  pub rest-parts : s .rest .parts ≤ 9999999 * s .other
-  pub moved-cents : s .moved .cents ≤ 10000000 * s .other
-  pub moved-parts : s .moved .parts ≤ 9999999 * s .other
-  pub equity-plus : s .equity .plus ≤ 100000000000 * s .other
-  pub equity-minus : s .equity .minus ≤ 100000000000 * s .other
-  pub aoci-plus : s .aoci .plus ≤ 100000000000 * s .other
-  pub aoci-minus : s .aoci .minus ≤ 100000000000 * s .other
-  pub b : s .b ≤ 100000000000 * s .other
-  pub c : s .c ≤ 100000000000 * s .other
+  pub unscored : s .counts .unscored ≤ s .counts .loans
+  pub total-plus : s .total .plus ≤ 300000000 * s .counts .loans
+  pub total-minus : s .total .minus ≤ 100000 * s .counts .loans
+  pub supplement-plus : s .supplement .plus ≤ 300000000 * s .counts .loans
+  pub supplement-minus : s .supplement .minus ≤ 100000 * s .counts .loans
+  pub rest-cents : s .rest .cents ≤ 1610000000000 * s .counts .other
+  pub rest-parts : s .rest .parts ≤ 9999999 * s .counts .other
+  pub moved-cents : s .moved .cents ≤ 10000000 * s .counts .other
+  pub moved-parts : s .moved .parts ≤ 9999999 * s .counts .other
+  pub equity-plus : s .equity .plus ≤ 100000000000 * s .counts .other
+  pub equity-minus : s .equity .minus ≤ 100000000000 * s .counts .other
+  pub aoci-plus : s .aoci .plus ≤ 100000000000 * s .counts .other
+  pub aoci-minus : s .aoci .minus ≤ 100000000000 * s .counts .other
+  pub b : s .b ≤ 100000000000 * s .counts .other
+  pub c : s .c ≤ 100000000000 * s .counts .other
 
 -- as many lines as a book may have (01, "A book, line by line")
 pub record InLimits (s : Sums) : Type 0 where
-  pub loans : s .loans ≤ 1000000
-  pub other : s .other ≤ 100000
+  pub loans : s .counts .loans ≤ 1000000
+  pub other : s .counts .other ≤ 100000

@@ -1,7 +1,7 @@
 // What the lines of a book add up to, and the report's figures computed from it. Numbers only.
 ghost use mathlib.Core.Path.{_≡_};
 ghost use Prim.Native.Nat.{_+_, _-_, _*_, _/_, _<_, _≤_, _^_, min};
-ghost use Rattle.figures.specs.Sums.{signedSum, moneySum, moneyOf, noSums, plus, Bounded, InLimits};
+ghost use Rattle.figures.specs.Sums.{countsSum, signedSum, moneySum, moneyOf, noSums, plus, Bounded, InLimits};
 ghost use Rattle.figures.specs.Figures.{difference, wholeCents, homeOf, operOf, admittedB, admittedC, admitted, capitalOf, ratioSize, ratioOf, figuresOf};
 ghost use Rattle.figures.specs.Division.{divided};
 use fixed_point::Division;
@@ -13,11 +13,16 @@ pub struct Money {
     pub parts: u64,
 }
 
-// What lines add up to.
-pub struct Sums {
+// How many lines are loans, loans without a score, and no loans.
+pub struct Counts {
     pub loans: u64,
     pub unscored: u64,
     pub other: u64,
+}
+
+// What lines add up to.
+pub struct Sums {
+    pub counts: Counts,
     pub total: Signed,
     pub supplement: Signed,
     pub rest: Money,
@@ -43,9 +48,11 @@ pub fn none() -> Sums
     ensures { λ r. ⌜ r ≡ noSums ⌝ }
 {
     Sums {
-        loans: 0,
-        unscored: 0,
-        other: 0,
+        counts: Counts {
+            loans: 0,
+            unscored: 0,
+            other: 0,
+        },
         total: Signed { plus: 0, minus: 0 },
         supplement: Signed { plus: 0, minus: 0 },
         rest: Money { cents: 0, parts: 0 },
@@ -85,14 +92,23 @@ fn money_sum(x: Money, y: Money) -> Money
     }
 }
 
+fn counts_sum(x: Counts, y: Counts) -> Counts
+    requires { ⌜ (x .loans + y .loans < 2 ^ 64) × (x .unscored + y .unscored < 2 ^ 64) × (x .other + y .other < 2 ^ 64) ⌝ }
+    ensures { λ r. ⌜ r ≡ countsSum x y ⌝ }
+{
+    Counts {
+        loans: sum(x.loans, y.loans),
+        unscored: sum(x.unscored, y.unscored),
+        other: sum(x.other, y.other),
+    }
+}
+
 // Two sums together.
 pub fn add(x: Sums, y: Sums) -> Sums
     requires { ⌜ Bounded x × Bounded y × InLimits (plus x y) ⌝ }
     ensures { λ r. ⌜ r ≡ plus x y ⌝ }
 {
-    let loans = sum(x.loans, y.loans);
-    let unscored = sum(x.unscored, y.unscored);
-    let other = sum(x.other, y.other);
+    let counts = counts_sum(x.counts, y.counts);
     let total = signed_sum(x.total, y.total);
     let supplement = signed_sum(x.supplement, y.supplement);
     let rest = money_sum(x.rest, y.rest);
@@ -102,9 +118,7 @@ pub fn add(x: Sums, y: Sums) -> Sums
     let b = sum(x.b, y.b);
     let c = sum(x.c, y.c);
     Sums {
-        loans,
-        unscored,
-        other,
+        counts,
         total,
         supplement,
         rest,
@@ -267,7 +281,7 @@ pub fn compute(held: u64, s: Sums) -> Figures
     let capital = capital(s.equity, s.aoci, s.b, s.c);
     let ratio = capital_ratio(capital, required);
     Figures {
-        loans: s.loans,
+        loans: s.counts.loans,
         total,
         supplement,
         home,

@@ -2,11 +2,13 @@
 ghost use mathlib.Core.Path.{_≡_};
 ghost use Prim.Native.Nat.{_≤_, _-_};
 ghost use Rattle.loan_charge.specs.Tables.{exponentials};
-ghost use Rattle.loan_charge.specs.CreditFactor.{builtInRates};
-ghost use Rattle.figures.specs.Sums.{zeroMoney, zeroSigned};
+ghost use Rattle.loan_charge.specs.CreditFactor.{RatesInRange};
+ghost use Rattle.figures.specs.Sums.{zeroMoney, zeroSigned, moneyOf};
 ghost use Rattle.book_model.specs.Ranges.{LoanRanges, DerivativeRanges, AssetRanges};
-ghost use Rattle.book_model.specs.Share.{unscoredCount, otherShare, restShare, movedShare, capitalShare, policyShare, derivativeShare, assetShare, amountShare, loanShare};
-ghost use Rattle.book_model.specs.Terms.{termsWith, factorFor};
+ghost use Rattle.book_model.specs.LineKinds.{unscoredCount};
+ghost use Rattle.book_model.specs.Share.{otherShare, capitalShare, policyShare, derivativeShare, assetShare, amountShare, loanShare};
+ghost use Rattle.book_model.specs.Terms.{under, factorFor};
+use figures::Counts;
 use figures::Money;
 use figures::Sums;
 use fixed_point::Signed;
@@ -34,9 +36,11 @@ fn other(rest: Money, moved: Money, equity: Signed, aoci: Signed, b: u64, c: u64
     ensures { λ r. ⌜ r ≡ otherShare rest moved equity aoci b c ⌝ }
 {
     Sums {
-        loans: 0,
-        unscored: 0,
-        other: 1,
+        counts: Counts {
+            loans: 0,
+            unscored: 0,
+            other: 1,
+        },
         total: no_amount(),
         supplement: no_amount(),
         rest,
@@ -48,27 +52,13 @@ fn other(rest: Money, moved: Money, equity: Signed, aoci: Signed, b: u64, c: u64
     }
 }
 
-// A line that adds n ten-millionths of a cent to rest.
-fn rest(n: u64) -> Sums
-    ensures { λ r. ⌜ r ≡ restShare n ⌝ }
+// A line that adds ten-millionths of a cent to rest and moved.
+fn charged(rest: u64, moved: u64) -> Sums
+    ensures { λ r. ⌜ r ≡ otherShare (moneyOf rest) (moneyOf moved) zeroSigned zeroSigned 0 0 ⌝ }
 {
     other(
-        figures::in_cents(n),
-        no_money(),
-        no_amount(),
-        no_amount(),
-        0,
-        0,
-    )
-}
-
-// A line that adds n ten-millionths of a cent to moved.
-fn moved(n: u64) -> Sums
-    ensures { λ r. ⌜ r ≡ movedShare n ⌝ }
-{
-    other(
-        no_money(),
-        figures::in_cents(n),
+        figures::in_cents(rest),
+        figures::in_cents(moved),
         no_amount(),
         no_amount(),
         0,
@@ -88,8 +78,14 @@ pub fn policy(class: Class, premium: u64, term: u64, completed: u64) -> Sums
     ensures { λ r. ⌜ r ≡ policyShare class premium term completed ⌝ }
 {
     match class {
-        Class::Home => moved(other_charges::provision_parts(premium, term, completed, 10000)),
-        Class::Multi => rest(other_charges::provision_parts(premium, term, completed, 12500)),
+        Class::Home => charged(
+            0,
+            other_charges::provision_parts(premium, term, completed, 10000),
+        ),
+        Class::Multi => charged(
+            other_charges::provision_parts(premium, term, completed, 12500),
+            0,
+        ),
     }
 }
 
@@ -110,21 +106,22 @@ pub fn derivative(d: Derivative) -> Sums
 {
     let kind = d.kind;
     let cost = d.cost;
-    rest(other_charges::derivative_parts(
+    let parts = other_charges::derivative_parts(
         kind,
         positive(cost),
         d.notional,
         d.months,
         d.payments,
         d.factor,
-    ))
+    );
+    charged(parts, 0)
 }
 
 pub fn asset(a: Asset) -> Sums
     requires { ⌜ AssetRanges a ⌝ }
     ensures { λ r. ⌜ r ≡ assetShare a ⌝ }
 {
-    rest(other_charges::asset_parts(a.amount, a.factor))
+    charged(other_charges::asset_parts(a.amount, a.factor), 0)
 }
 
 pub fn amount(item: Item, x: Signed) -> Sums
@@ -132,9 +129,9 @@ pub fn amount(item: Item, x: Signed) -> Sums
     ensures { λ r. ⌜ r ≡ amountShare item x ⌝ }
 {
     match item {
-        Item::Claims => rest(other_charges::share_parts(x.plus, 20)),
-        Item::Lossc => rest(other_charges::share_parts(x.plus, 40)),
-        Item::Stated => rest(other_charges::share_parts(x.plus, 100)),
+        Item::Claims => charged(other_charges::share_parts(x.plus, 20), 0),
+        Item::Lossc => charged(other_charges::share_parts(x.plus, 40), 0),
+        Item::Stated => charged(other_charges::share_parts(x.plus, 100), 0),
         Item::Equity => capital(x, no_amount(), 0, 0),
         Item::Aoci => capital(no_amount(), x, 0, 0),
         Item::B => capital(no_amount(), no_amount(), x.plus, 0),
@@ -153,16 +150,15 @@ pub fn unscored(score: Score) -> u64
 }
 
 fn factor(h: Header, score: Score, rates: &[u64; 66]) -> u64
-    requires { ⌜ now rates ≡ builtInRates ⌝ }
-    ensures { λ r. ⌜ r ≡ factorFor (termsWith h) score ⌝ }
+    ensures { λ r. ⌜ r ≡ factorFor (under h (now (rates .entry))) score ⌝ }
 {
     let aged = line_forms::on_aged_table(h);
     loan_charge::credit::credit_factor(score, aged, h.loans, h.unscored, rates)
 }
 
 pub fn loan(h: Header, l: Loan, exps: &[u64; 1537], rates: &[u64; 66]) -> Sums
-    requires { ⌜ LoanRanges l × (now exps ≡ exponentials) × (now rates ≡ builtInRates) ⌝ }
-    ensures { λ r. ⌜ r ≡ loanShare (termsWith h) l ⌝ }
+    requires { ⌜ LoanRanges l × (now exps ≡ exponentials) × RatesInRange (now rates) ⌝ }
+    ensures { λ r. ⌜ r ≡ loanShare (under h (now (rates .entry))) l ⌝ }
 {
     let score = l.score;
     let m = factor(h, score, rates);
@@ -180,9 +176,11 @@ pub fn loan(h: Header, l: Loan, exps: &[u64; 1537], rates: &[u64; 66]) -> Sums
     let total = charge.total;
     let supplement = charge.supplement;
     Sums {
-        loans: 1,
-        unscored: unscored(score),
-        other: 0,
+        counts: Counts {
+            loans: 1,
+            unscored: unscored(score),
+            other: 0,
+        },
         total,
         supplement,
         rest: no_money(),

@@ -3,7 +3,8 @@
 // A closing prints the whole buffer, in which every byte was `.` before.
 ghost use Prim.Native.Nat.{_≤_, _<_};
 ghost use lib.ListN.{length};
-ghost use Rattle.book_model.specs.Calls.{Sound};
+ghost use Rattle.book_model.specs.Calls.{stateAt, Sound};
+ghost use Rattle.loan_charge.specs.CreditFactor.{builtInRates};
 use book_model::Book;
 use book_model::Closed;
 
@@ -13,7 +14,7 @@ fn print_answer(call: &[u8], refusal: u64) {
 }
 
 fn open(line: &[u8]) -> Book
-    ensures { λ r. ⌜ Sound r ⌝ }
+    ensures { λ r. ⌜ Sound (stateAt r builtInRates) ⌝ }
 {
     let opened = book::open(line);
     print_answer(b"o ", opened.refusal);
@@ -22,8 +23,8 @@ fn open(line: &[u8]) -> Book
 }
 
 fn feed(b: Book, line: &[u8]) -> Book
-    requires { ⌜ Sound b ⌝ }
-    ensures { λ r. ⌜ Sound r ⌝ }
+    requires { ⌜ Sound (stateAt b builtInRates) ⌝ }
+    ensures { λ r. ⌜ Sound (stateAt r builtInRates) ⌝ }
 {
     let fed = book::feed(b, line);
     print_answer(b"f ", fed.refusal);
@@ -55,7 +56,7 @@ fn print_closing(closed: Closed, out: &[u8; 640]) {
 }
 
 fn close(b: Book, size: usize)
-    requires { ⌜ Sound b × (size ≤ 640) ⌝ }
+    requires { ⌜ Sound (stateAt b builtInRates) × (size ≤ 640) ⌝ }
 {
     let mut out = [46u8; 640];
     let closed = book::close(b, &mut out[0..size]);
@@ -64,8 +65,8 @@ fn close(b: Book, size: usize)
 
 // One call; an empty line is none.
 fn call(b: Book, line: &[u8]) -> Book
-    requires { ⌜ Sound b ⌝ }
-    ensures { λ r. ⌜ Sound r ⌝ }
+    requires { ⌜ Sound (stateAt b builtInRates) ⌝ }
+    ensures { λ r. ⌜ Sound (stateAt r builtInRates) ⌝ }
 {
     if line.len() == 0 {
         return b;

@@ -1,76 +1,80 @@
+use denote.Ref.{now}
+use mathlib.Core.Path.{refl, subst}
 use Rattle.line_forms.specs.declared.Line.{Line}
 use Rattle.line_forms.specs.declared.Line.the-variants.{Policy as PolicyLine, Derivative as DerivativeLine, Asset as AssetLine, Amount as AmountLine}
+use Rattle.line_forms.specs.Claims.{heldBy as lineContent}
+use Rattle.book_model.specs.Calls.{State, stateAt}
+use Rattle.book_model.specs.LineKinds.{contentKind}
 use Rattle.book_model.specs.Ranges.{Ranged, PolicyRanges, AmountRanges}
 use Rattle.book_model.specs.Share.{share}
 use Rattle.book_model.proofs.Feeding.{fed-refused}
 use Rattle.book.proofs.Answers.{loan-fed, other-asked, other-fed}
-use mathlib.Core.Path.{subst}
 use borrow.Author.Needs.{needs}
 use Rattle.book.proofs.feed_line.Statement.{statement}
 use Rattle.book.proofs.feed_line.Tie as tie
 
 add-loan-requires : tie.Need-add-loan-requires
 add-loan-requires c κs =
-    (c .before .before .before .pre .0, subst (λ (l : Line). Ranged l) (c .before .line .given .1) (c .before .before .before .pre .1), c .before .before .before .pre .2, c .before .before .before .pre .3)
+    (c .before .before .before .pre .0, subst (λ (l : Line). Ranged (lineContent l)) (c .before .line .given .1) (c .before .before .before .pre .1), c .before .before .before .pre .2)
 
 policy-requires : tie.Need-policy-requires
-policy-requires c κs = let r : PolicyRanges (c .before .line2 .given .0 .0) = subst (λ (l : Line). Ranged l) (c .before .line2 .given .1) (c .before .before .before .pre .1) in r .premium
+policy-requires c κs = let r : PolicyRanges (c .before .line2 .given .0 .0) = subst (λ (l : Line). Ranged (lineContent l)) (c .before .line2 .given .1) (c .before .before .before .pre .1) in r .premium
 
 add-other-requires : tie.Need-add-other-requires
-unfolding share
+unfolding share contentKind
 add-other-requires c κs =
-    other-asked (c .before .before .before .before .args .b) (PolicyLine (c .before .before .line2 .given .0 .0)) tt (c .before .before .line2 .given .1) (c .policy .ensures) (c .before .before .before .before .pre .0) (c .before .before .before .before .pre .1)
+    other-asked (stateAt (c .before .before .before .before .args .b) (now (c .before .before .before .before .args .rates))) (PolicyLine (c .before .before .line2 .given .0 .0)) refl (c .before .before .line2 .given .1) (c .policy .ensures) (c .before .before .before .before .pre .0) (c .before .before .before .before .pre .1)
 
 derivative-requires : tie.Need-derivative-requires
-derivative-requires c κs = subst (λ (l : Line). Ranged l) (c .before .line3 .given .1) (c .before .before .before .pre .1)
+derivative-requires c κs = subst (λ (l : Line). Ranged (lineContent l)) (c .before .line3 .given .1) (c .before .before .before .pre .1)
 
 add-other-requires-2 : tie.Need-add-other-requires-2
-unfolding share
+unfolding share contentKind
 add-other-requires-2 c κs =
-    other-asked (c .before .before .before .before .args .b) (DerivativeLine (c .before .before .line3 .given .0 .0)) tt (c .before .before .line3 .given .1) (c .derivative .ensures) (c .before .before .before .before .pre .0) (c .before .before .before .before .pre .1)
+    other-asked (stateAt (c .before .before .before .before .args .b) (now (c .before .before .before .before .args .rates))) (DerivativeLine (c .before .before .line3 .given .0 .0)) refl (c .before .before .line3 .given .1) (c .derivative .ensures) (c .before .before .before .before .pre .0) (c .before .before .before .before .pre .1)
 
 asset-requires : tie.Need-asset-requires
-asset-requires c κs = subst (λ (l : Line). Ranged l) (c .before .line4 .given .1) (c .before .before .before .pre .1)
+asset-requires c κs = subst (λ (l : Line). Ranged (lineContent l)) (c .before .line4 .given .1) (c .before .before .before .pre .1)
 
 add-other-requires-3 : tie.Need-add-other-requires-3
-unfolding share
+unfolding share contentKind
 add-other-requires-3 c κs =
-    other-asked (c .before .before .before .before .args .b) (AssetLine (c .before .before .line4 .given .0 .0)) tt (c .before .before .line4 .given .1) (c .asset .ensures) (c .before .before .before .before .pre .0) (c .before .before .before .before .pre .1)
+    other-asked (stateAt (c .before .before .before .before .args .b) (now (c .before .before .before .before .args .rates))) (AssetLine (c .before .before .line4 .given .0 .0)) refl (c .before .before .line4 .given .1) (c .asset .ensures) (c .before .before .before .before .pre .0) (c .before .before .before .before .pre .1)
 
 amount-requires : tie.Need-amount-requires
-amount-requires c κs = let r : AmountRanges (c .before .before .line5 .given .0 .0) = subst (λ (l : Line). Ranged l) (c .before .before .line5 .given .1) (c .before .before .before .before .pre .1) in r .plus
+amount-requires c κs = let r : AmountRanges (c .before .before .line5 .given .0 .0) = subst (λ (l : Line). Ranged (lineContent l)) (c .before .before .line5 .given .1) (c .before .before .before .before .pre .1) in r .plus
 
 add-other-requires-4 : tie.Need-add-other-requires-4
-unfolding share
+unfolding share contentKind
 add-other-requires-4 c κs =
-    other-asked (c .before .before .before .before .before .args .b) (AmountLine (c .before .before .before .line5 .given .0 .0)) tt (c .before .before .before .line5 .given .1) (c .amount .ensures) (c .before .before .before .before .before .pre .0) (c .before .before .before .before .before .pre .1)
+    other-asked (stateAt (c .before .before .before .before .before .args .b) (now (c .before .before .before .before .before .args .rates))) (AmountLine (c .before .before .before .line5 .given .0 .0)) refl (c .before .before .before .line5 .given .1) (c .amount .ensures) (c .before .before .before .before .before .pre .0) (c .before .before .before .before .before .pre .1)
 
 returns : tie.Need-returns
 returns c =
-    loan-fed (c .before .before .before .before .args .b) (c .before .before .line .given .0 .0) (c .before .before .line .given .1) (c .add-loan .ensures)
+    loan-fed (stateAt (c .before .before .before .before .args .b) (now (c .before .before .before .before .args .rates))) (c .before .before .line .given .0 .0) (c .before .before .line .given .1) (c .add-loan .ensures)
 
 returns-2 : tie.Need-returns-2
-unfolding share
+unfolding share contentKind
 returns-2 c =
-    other-fed (c .before .before .before .before .before .args .b) (PolicyLine (c .before .before .before .line2 .given .0 .0)) tt (c .before .before .before .line2 .given .1) (c .before .policy .ensures) (c .add-other .ensures)
+    other-fed (stateAt (c .before .before .before .before .before .args .b) (now (c .before .before .before .before .before .args .rates))) (PolicyLine (c .before .before .before .line2 .given .0 .0)) refl (c .before .before .before .line2 .given .1) (c .before .policy .ensures) (c .add-other .ensures)
 
 returns-3 : tie.Need-returns-3
-unfolding share
+unfolding share contentKind
 returns-3 c =
-    other-fed (c .before .before .before .before .before .args .b) (DerivativeLine (c .before .before .before .line3 .given .0 .0)) tt (c .before .before .before .line3 .given .1) (c .before .derivative .ensures) (c .add-other2 .ensures)
+    other-fed (stateAt (c .before .before .before .before .before .args .b) (now (c .before .before .before .before .before .args .rates))) (DerivativeLine (c .before .before .before .line3 .given .0 .0)) refl (c .before .before .before .line3 .given .1) (c .before .derivative .ensures) (c .add-other2 .ensures)
 
 returns-4 : tie.Need-returns-4
-unfolding share
+unfolding share contentKind
 returns-4 c =
-    other-fed (c .before .before .before .before .before .args .b) (AssetLine (c .before .before .before .line4 .given .0 .0)) tt (c .before .before .before .line4 .given .1) (c .before .asset .ensures) (c .add-other3 .ensures)
+    other-fed (stateAt (c .before .before .before .before .before .args .b) (now (c .before .before .before .before .before .args .rates))) (AssetLine (c .before .before .before .line4 .given .0 .0)) refl (c .before .before .before .line4 .given .1) (c .before .asset .ensures) (c .add-other3 .ensures)
 
 returns-5 : tie.Need-returns-5
-unfolding share
+unfolding share contentKind
 returns-5 c =
-    other-fed (c .before .before .before .before .before .before .args .b) (AmountLine (c .before .before .before .before .line5 .given .0 .0)) tt (c .before .before .before .before .line5 .given .1) (c .before .amount .ensures) (c .add-other4 .ensures)
+    other-fed (stateAt (c .before .before .before .before .before .before .args .b) (now (c .before .before .before .before .before .before .args .rates))) (AmountLine (c .before .before .before .before .line5 .given .0 .0)) refl (c .before .before .before .before .line5 .given .1) (c .before .amount .ensures) (c .add-other4 .ensures)
 
 returns-6 : tie.Need-returns-6
-returns-6 c = rw (c .before .line6 .given .1) (fed-refused (c .before .before .before .args .b) (c .before .line6 .given .0 .0))
+returns-6 c = rw (c .before .line6 .given .1) (fed-refused (stateAt (c .before .before .before .args .b) (now (c .before .before .before .args .rates))) (c .before .line6 .given .0 .0))
 
 pub feed-line-spec : {M : Type 1} → statement M
 feed-line-spec =

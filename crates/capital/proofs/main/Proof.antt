@@ -1,13 +1,15 @@
-use Rattle.driver.proofs.Answers.{written-within}
+-- `main` meets its contract.
 use Prim.Native.Nat.{_≤_}
 use lib.ListN.{length}
 use borrow.Author.Needs.{needs}
+use Rattle.driver.proofs.Answers.{written-within}
 use Rattle.capital.proofs.main.Statement.{statement}
 use Rattle.capital.proofs.main.Tie as tie
 
 part-write-all-end : tie.Need-part-write-all-end
 part-write-all-end c =
-    let h : c .before .before .finish .result ≤ length (c .before .before .finish .last .1 .1 .1 .1 .0) = written-within (c .before .before .finish .ensures) in
+    let f = c .before .before .finish in
+    let h : f .result ≤ length (f .last .1 .1 .1 .0) = written-within (f .ensures .0) in
     search needs
 
 pub main-spec : {M : Type 1} → statement M
@@ -18,11 +20,9 @@ main-spec =
     (λ c κs. search needs)
     (λ c κs. search needs)
     (λ c. search needs)
-    (λ c. search needs)
     (λ c κs. search needs)
     (λ c. search needs)
     (λ c κs. search needs)
-    (λ c. search needs)
     (λ c. search needs)
     (λ c. search needs)
     (λ c κs. search needs)

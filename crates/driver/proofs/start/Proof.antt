@@ -1,24 +1,27 @@
--- `driver::start` meets its contract. Assumes nothing.
-use mathlib.Core.Path.{sym, subst}
+-- `start` meets its contract.
+use mathlib.Core.List.{[]}
+use mathlib.Core.Path.{_≡_, refl, sym, subst}
 use native.Mathlib.Omega.{arith}
 use borrow.Author.Needs.{needs}
-use Rattle.figures.specs.declared.Sums.{Sums}
-use Rattle.book_model.specs.Calls.{zeroHeader}
+use Rattle.loan_charge.specs.CreditFactor.{builtInRates}
+use Rattle.loan_charge.proofs.CreditLaws.{built-in}
+use Rattle.book_model.specs.declared.Book.{Book}
+use Rattle.book_model.specs.Calls.{stateAt, zeroHeader, emptyBook, Sound}
 use Rattle.book_model.proofs.Feeding.{empty-sound}
-use Rattle.driver.specs.Reading.{atStart, Running}
+use Rattle.driver.specs.Reading.{unbroken}
 use Rattle.driver.proofs.start.Statement.{statement}
 use Rattle.driver.proofs.start.Tie as tie
 
-running : Running (record { progress = atStart; held = 0 })
-running =
-    record {
-      progress = record { sound = empty-sound zeroHeader (record { loans = omega arith; unscored = omega arith; held = omega arith }); number = omega arith };
-      held = omega arith;
-    }
+sound : Sound (stateAt (emptyBook zeroHeader) builtInRates)
+sound = record { book = empty-sound zeroHeader (record { loans = omega arith; unscored = omega arith; held = omega arith }); rates = built-in }
 
 returns : tie.Need-returns
+unfolding unbroken
 returns c =
-    (λ i. record { progress = record { refusal = 0; number = 1; book = record { header = zeroHeader; sums = c .none .ensures i } }; held = 0 }, subst (λ (s : Sums). Running (record { progress = record { refusal = 0; number = 1; book = record { header = zeroHeader; sums = s } }; held = 0 })) (sym (c .none .ensures)) running)
+    let b : emptyBook zeroHeader ≡ record { header = zeroHeader; sums = c .before .none .result } = λ i. record { header = zeroHeader; sums = sym (c .before .none .ensures) i } in (
+      λ i. record { stage = record { refusal = 0; number = 1; state = stateAt (sym b i) builtInRates }; tail = [] },
+      (record { sound = subst (λ (x : Book). Sound (stateAt x builtInRates)) b sound; number = omega arith; held = omega arith; room = c .no-bytes .ensures; unended = refl }, refl),
+    )
 
 pub start-spec : {M : Type 1} → statement M
-start-spec = tie.close (tie.spec (λ c κs. search needs) returns)
+start-spec = tie.close (tie.spec (λ c κs. search needs) (λ c κs. search needs) returns)

@@ -1,73 +1,74 @@
 -- `step` meets its contract.
-use mathlib.Core.List.{[]}
-use lib.Seq.{take-all, length-take-le}
-use mathlib.Core.Path.{_≡_, sym, _∙_, ap}
-use Prim.Native.Nat.{_-_, _≤_}
+use denote.Ref.{now}
 use native.Mathlib.Omega.{arith}
-use lib.ListN.{length, take}
+use lib.ListN.{length, length-drop, length-take}
 use borrow.Author.Needs.{needs}
-use Rattle.loan_charge.specs.Tables.{exponentials}
-use Rattle.loan_charge.specs.CreditFactor.{builtInRates}
-use Rattle.driver.specs.Reading.{withBytes, Underway}
-use Rattle.driver.proofs.Bytes.{line-read, rest-read}
+use Rattle.driver.proofs.Runs.{none-held, held-more, all-held, line-and-more}
 use Rattle.driver.proofs.step.Statement.{statement}
 use Rattle.driver.proofs.step.Tie as tie
 
-abbrev Inv-loop : tie.InvT-loop
-Inv-loop tail₀ exps rates chunk size p₀ held₀ i₀ tail p held i =
-    (record { progress = p; tail = take held tail } ≡ withBytes (record { progress = p₀; tail = take held₀ tail₀ }) (take i chunk)) × Underway p × (held ≤ 241) × (i ≤ length chunk) × (length tail ≡ 241) × (exps ≡ exponentials) × (rates ≡ builtInRates)
-
-abbrev μ-loop : tie.MeasureT-loop
-μ-loop tail₀ exps rates chunk size p₀ held₀ i₀ tail p held i = length chunk - i
-
-loop-holds : tie.Need-loop-holds Inv-loop μ-loop
-unfolding withBytes
-loop-holds c = search needs
-
-returns : tie.Need-returns Inv-loop μ-loop
+returns : tie.Need-returns
 returns c =
-    let a = c .before .before .before .before .before .before .before .before .before .before .before .before .args in
-    let l = c .before .before .before .before .before .before .before .before .loop in
-    let e = c .before .before .before .before .before .before .line-end in
-    let n : length (take (l .held) (l .tail)) ≡ l .held = length-take-le (l .held) (l .tail) (omega arith) in
-    ((λ j. record { progress = l .p; tail = c .before .before .hold .ensures .0 j }) ∙ sym (rest-read (record { progress = a .run .progress; tail = take (a .run .held) (a .tail .now) }) (a .chunk .now) (l .p) (take (l .held) (l .tail)) (l .i) (e .result) (l .inv .0) (omega arith) (l .inv .3) (e .ensures .0) (omega arith)), record { progress = l .inv .1; held = c .before .before .hold .ensures .1 })
+    let a = c .before .before .before .before .before .before .args in
+    none-held (a .run) (now (a .rates)) (now (a .chunk)) _ (c .before .if1 .taken) (c .read-lines .ensures)
 
-add-i : tie.Need-add-i Inv-loop μ-loop
-add-i c =
-    let a = c .before .before .before .before .before .before .before .before .before .before .before .before in
-    record { fits = omega (arith, a .good .1 .1 .1 .1 .0, c .before .before .before .before .if1 .left) }
-
-loop-again : tie.Need-loop-again Inv-loop μ-loop
-loop-again c =
-    let a = c .before .before .before .before .before .before .before .before .before .before .before .before .args in
-    let l = c .before .before .before .before .before .before .before .before .loop in
-    let e = c .before .before .before .before .before .before .line-end in
-    let n : length (take (l .held) (l .tail)) ≡ l .held = length-take-le (l .held) (l .tail) (omega arith) in
-    ((λ j. record { progress = c .before .before .end-held .ensures .0 j; tail = [] }) ∙ sym (line-read (record { progress = a .run .progress; tail = take (a .run .held) (a .tail .now) }) (a .chunk .now) (l .p) (take (l .held) (l .tail)) (l .i) (e .result) (l .inv .0) (omega arith) (l .inv .3) (e .ensures .0) (omega arith)), c .before .before .end-held .ensures .1, omega arith, omega arith, search needs, l .inv .5, l .inv .6)
-
-returns-2 : tie.Need-returns-2 Inv-loop μ-loop
+returns-2 : tie.Need-returns-2
 returns-2 c =
-    let a = c .before .before .before .before .before .args in
-    let l = c .before .loop in
-    (l .inv .0 ∙ ap (withBytes (record { progress = a .run .progress; tail = take (a .run .held) (a .tail .now) })) (take-all (l .i) (a .chunk .now) (omega arith)), record { progress = l .inv .1; held = l .inv .2 })
+    let start = c .before .before .before .before .before .before .before .before .before .before .before in
+    let a = start .args in
+    let e = c .before .before .before .before .before .line-end in
+    let h = c .before .before .hold in
+    all-held (a .run) (now (a .rates)) (now (a .chunk)) (start .pre .0) (e .result) (e .ensures .0) (h .result) (h .last .0) (h .ensures .0) (h .ensures .1) (search needs) (c .if2 .taken) (e .ensures .1 .1)
+
+end-held-requires : tie.Need-end-held-requires
+end-held-requires c κs =
+    let start = c .before .before .before .before .before .before .before .before .before .before .before .before in
+    let a = start .args in
+    let e = c .before .before .before .before .before .before .line-end in
+    let h = c .before .before .before .hold in (
+      start .pre .0 .sound,
+      omega (arith, start .pre .0 .number, start .pre .1),
+      start .pre .2,
+      start .pre .3,
+      h .ensures .1,
+      search needs,
+      held-more (a .run) (now (a .rates)) (now (a .chunk)) (start .pre .0) (e .result) (e .ensures .0) (h .result) (h .last .0) (h .ensures .0) .1,
+    )
+
+read-lines-requires-2 : tie.Need-read-lines-requires-2
+read-lines-requires-2 c κs =
+    let start = c .before .before .before .before .before .before .before .before .before .before .before .before .before .before .before in
+    let h = c .before .before .end-held in
+    (h .ensures .1 .0, rw (length-take, length-drop) (omega (arith, h .ensures .1 .1, start .pre .0 .number, c .before .before .before .before .if2 .left)), start .pre .1, start .pre .2, start .pre .3, search needs)
+
+returns-3 : tie.Need-returns-3
+returns-3 c =
+    let start = c .before .before .before .before .before .before .before .before .before .before .before .before .before .before .before .before in
+    let a = start .args in
+    let e = c .before .before .before .before .before .before .before .before .before .before .line-end in
+    let h = c .before .before .before .before .before .before .before .hold in
+    line-and-more (a .run) (now (a .rates)) (now (a .chunk)) (start .pre .0) (e .result) (e .ensures .0) (c .before .before .before .end-held .result) (h .result) (h .last .0) (h .ensures .0) (omega (arith, c .before .before .before .before .before .if2 .left))
+    (c .before .before .before .end-held .ensures .0) (c .read-lines2 .ensures)
 
 pub step-spec : {M : Type 1} → statement M
 step-spec =
     tie.close
     (tie.spec
-    Inv-loop
-    μ-loop
-    loop-holds
-    (λ c κs. search needs)
-    (λ c. search needs)
-    (λ c. search needs)
     (λ c. search needs)
     (λ c κs. search needs)
-    (λ c. search needs)
     returns
     (λ c κs. search needs)
-    add-i
     (λ c. search needs)
-    loop-again
     (λ c. search needs)
-    returns-2)
+    (λ c. search needs)
+    (λ c. search needs)
+    (λ c κs. search needs)
+    returns-2
+    (λ c. search needs)
+    end-held-requires
+    (λ c. search needs)
+    (λ c. search needs)
+    (λ c. search needs)
+    (λ c. search needs)
+    read-lines-requires-2
+    returns-3)

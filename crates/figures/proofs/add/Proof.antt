@@ -4,14 +4,8 @@ use native.Mathlib.Omega.{arith}
 use Rattle.figures.proofs.add.Statement.{statement}
 use Rattle.figures.proofs.add.Tie as tie
 
-sum-requires : tie.Need-sum-requires
-sum-requires c κs = omega arith
-
-sum-requires-2 : tie.Need-sum-requires-2
-sum-requires-2 c κs = omega arith
-
-sum-requires-3 : tie.Need-sum-requires-3
-sum-requires-3 c κs = omega arith
+counts-sum-requires : tie.Need-counts-sum-requires
+counts-sum-requires c κs = omega arith
 
 signed-sum-requires : tie.Need-signed-sum-requires
 signed-sum-requires c κs = omega arith
@@ -31,29 +25,27 @@ signed-sum-requires-3 c κs = omega arith
 signed-sum-requires-4 : tie.Need-signed-sum-requires-4
 signed-sum-requires-4 c κs = omega arith
 
-sum-requires-4 : tie.Need-sum-requires-4
-sum-requires-4 c κs = omega arith
+sum-requires : tie.Need-sum-requires
+sum-requires c κs = omega arith
 
-sum-requires-5 : tie.Need-sum-requires-5
-sum-requires-5 c κs = omega arith
+sum-requires-2 : tie.Need-sum-requires-2
+sum-requires-2 c κs = omega arith
 
 returns : tie.Need-returns
 returns c =
-    rw (c .before .before .before .before .before .before .before .before .before .before .sum .ensures, c .before .before .before .before .before .before .before .before .before .sum2 .ensures, c .before .before .before .before .before .before .before .before .sum3 .ensures, c .before .before .before .before .before .before .before .signed-sum .ensures, c .before .before .before .before .before .before .signed-sum2 .ensures, c .before .before .before .before .before .money-sum .ensures, c .before .before .before .before .money-sum2 .ensures, c .before .before .before .signed-sum3 .ensures, c .before .before .signed-sum4 .ensures, c .before .sum4 .ensures, c .sum5 .ensures) refl
+    rw (c .before .before .before .before .before .before .before .before .counts-sum .ensures, c .before .before .before .before .before .before .before .signed-sum .ensures, c .before .before .before .before .before .before .signed-sum2 .ensures, c .before .before .before .before .before .money-sum .ensures, c .before .before .before .before .money-sum2 .ensures, c .before .before .before .signed-sum3 .ensures, c .before .before .signed-sum4 .ensures, c .before .sum .ensures, c .sum2 .ensures) refl
 
 pub add-spec : {M : Type 1} → statement M
 add-spec =
     tie.close
     (tie.spec
-    sum-requires
-    sum-requires-2
-    sum-requires-3
+    counts-sum-requires
     signed-sum-requires
     signed-sum-requires-2
     money-sum-requires
     money-sum-requires-2
     signed-sum-requires-3
     signed-sum-requires-4
-    sum-requires-4
-    sum-requires-5
+    sum-requires
+    sum-requires-2
     returns)

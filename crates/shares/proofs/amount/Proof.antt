@@ -6,15 +6,15 @@ use Rattle.shares.proofs.amount.Tie as tie
 
 returns : tie.Need-returns
 unfolding amountShare
-returns c = rw (c .before .before .enum-told .given .1, c .rest .ensures, c .before .share-parts .ensures) refl
+returns c = rw (c .before .before .enum-told .given .1, c .charged .ensures, c .before .share-parts .ensures) refl
 
 returns-2 : tie.Need-returns-2
 unfolding amountShare
-returns-2 c = rw (c .before .before .enum-told2 .given .1, c .rest2 .ensures, c .before .share-parts2 .ensures) refl
+returns-2 c = rw (c .before .before .enum-told2 .given .1, c .charged2 .ensures, c .before .share-parts2 .ensures) refl
 
 returns-3 : tie.Need-returns-3
 unfolding amountShare
-returns-3 c = rw (c .before .before .enum-told3 .given .1, c .rest3 .ensures, c .before .share-parts3 .ensures) refl
+returns-3 c = rw (c .before .before .enum-told3 .given .1, c .charged3 .ensures, c .before .share-parts3 .ensures) refl
 
 returns-4 : tie.Need-returns-4
 unfolding amountShare

@@ -6,7 +6,7 @@ use Rattle.shares.proofs.asset.Tie as tie
 
 returns : tie.Need-returns
 unfolding assetShare
-returns c = rw (c .rest .ensures, c .before .asset-parts .ensures) refl
+returns c = rw (c .charged .ensures, c .before .asset-parts .ensures) refl
 
 pub asset-spec : {M : Type 1} → statement M
 asset-spec = tie.close (tie.spec (λ c κs. search needs) (λ c κs. search needs) returns)

@@ -6,7 +6,7 @@ use Rattle.shares.proofs.derivative.Tie as tie
 
 returns : tie.Need-returns
 unfolding derivativeShare
-returns c = rw (c .rest .ensures, c .before .derivative-parts .ensures, c .before .before .positive .ensures) refl
+returns c = rw (c .charged .ensures, c .before .derivative-parts .ensures, c .before .before .positive .ensures) refl
 
 pub derivative-spec : {M : Type 1} → statement M
 derivative-spec =

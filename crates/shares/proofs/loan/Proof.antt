@@ -1,18 +1,20 @@
 use mathlib.Core.Path.{refl}
-use Rattle.book_model.proofs.Near.{chargeable}
-use Rattle.book_model.proofs.Required.{good-terms}
-use Rattle.book_model.specs.Share.{loanNumbers}
-use Rattle.book_model.specs.Share.{loanShare}
+use Rattle.book_model.proofs.Near.{rates-chargeable, chargeable}
+use Rattle.book_model.specs.LineKinds.{kindCounts}
+use Rattle.book_model.specs.Share.{loanNumbers, loanShare}
+use Rattle.book_model.specs.Terms.{Terms, under}
+use denote.Ref.{now}
 use borrow.Author.Needs.{needs}
 use Rattle.shares.proofs.loan.Statement.{statement}
 use Rattle.shares.proofs.loan.Tie as tie
 
 charge-requires : tie.Need-charge-requires
 charge-requires c κs =
-    (rw (c .before .factor .ensures) (chargeable (good-terms (c .before .before .args .h)) (c .before .before .args .l) (c .before .before .pre .0)), c .before .before .pre .1)
+    let t : Terms = under (c .before .before .args .h) (now (c .before .before .args .rates)) in
+    (rw (c .before .factor .ensures) (chargeable (rates-chargeable t (c .before .before .pre .2)) (c .before .before .args .l) (c .before .before .pre .0)), c .before .before .pre .1)
 
 returns : tie.Need-returns
-unfolding loanShare loanNumbers
+unfolding loanShare loanNumbers kindCounts
 returns c =
     rw (c .before .before .before .before .unscored .ensures, c .before .before .before .no-money .ensures, c .before .before .no-money2 .ensures, c .before .no-amount .ensures, c .no-amount2 .ensures, c .before .before .before .before .before .before .before .charge .ensures, c .before .before .before .before .before .before .before .before .before .factor .ensures) refl
 

@@ -1,5 +1,5 @@
 use mathlib.Core.Path.{refl}
-use Rattle.book_model.specs.Share.{unscoredCount}
+use Rattle.book_model.specs.LineKinds.{unscoredCount}
 use borrow.Author.Needs.{needs}
 use Rattle.shares.proofs.unscored.Statement.{statement}
 use Rattle.shares.proofs.unscored.Tie as tie

@@ -1,13 +1,14 @@
 -- Safe and ends: each turn passes a line, so the measure is what is left of the input. Every book is one that opening or feeding gave.
 use Prim.Native.Nat.{_-_}
 use lib.ListN.{length}
-use Rattle.book_model.specs.Calls.{Sound}
+use Rattle.book_model.specs.Calls.{stateAt, Sound}
+use Rattle.loan_charge.specs.CreditFactor.{builtInRates}
 use borrow.Author.Needs.{needs}
 use Rattle.try_book.proofs.call_all.Statement.{statement}
 use Rattle.try_book.proofs.call_all.Tie as tie
 
 abbrev Inv-loop : tie.InvT-loop
-Inv-loop s b₀ at₀ b at = Sound b
+Inv-loop s b₀ at₀ b at = Sound (stateAt b builtInRates)
 
 abbrev μ-loop : tie.MeasureT-loop
 μ-loop s b₀ at₀ b at = length s - at

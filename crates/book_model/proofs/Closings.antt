@@ -1,0 +1,106 @@
+-- Closing by cases of its tests, for any text and any size asked. Assumes nothing.
+use mathlib.Core.Path.{_≡_, refl, _∙_}
+use mathlib.Core.Bool.{Bool, true, false, true≢false, false≢true, _||_}
+use mathlib.Core.List.{List}
+use mathlib.Core.Logic.{_↔_, _⊎_, inl, inr, ⊎-elim}
+use Prim.Native.Nat.{ℕ, _≤_, _<_}
+use native.Mathlib.Omega.{arith}
+use lib.Dec.{eqb, ltb}
+use lib.ListN.{length}
+use borrow.Author.Tests.{ltb-true, ltb-false, lt-ltb, le-ltb, eq-eqb, eqb-true}
+use Rattle.exact.specs.Choice.{pick}
+use Rattle.line_forms.specs.declared.Header.{Header}
+use Rattle.figures.specs.declared.Counts.{Counts}
+use Rattle.report.specs.Line.{onto, Written}
+use Rattle.book_model.specs.declared.Book.{Book}
+use Rattle.book_model.specs.declared.Closed.{Closed}
+use Rattle.book_model.specs.Calls.{tooFew, closingRefusal, closingWith, closedWith}
+
+-- an answer of closing and the buffer as it leaves it
+abbrev Answers : (least : ℕ) → Book → (text buffer : List ℕ) → Closed → List ℕ → Type 0
+Answers least b text buffer answer after = (answer ≡ closingWith least b text (length buffer)) × (after ≡ closedWith least b text buffer)
+
+module _ (least : ℕ) (b : Book) (text buffer : List ℕ) where
+  pub refused-6 : tooFew (b .header) (b .sums .counts) ≡ true → Answers least b text buffer (record { refusal = 6; length = 0 }) buffer
+  unfolding closingWith closedWith
+  refused-6 e = (rw e refl, rw e refl)
+
+  pub refused-9 : tooFew (b .header) (b .sums .counts) ≡ false → length buffer < least → Answers least b text buffer (record { refusal = 9; length = 0 }) buffer
+  unfolding closingWith closedWith
+  refused-9 e f = (rw (e, lt-ltb (length buffer) least f) refl, rw (e, lt-ltb (length buffer) least f) refl)
+
+  pub written : tooFew (b .header) (b .sums .counts) ≡ false → least ≤ length buffer → {told : ℕ} {after : List ℕ} → Written buffer text told after →
+      Answers least b text buffer (record { refusal = 0; length = told }) after
+  unfolding closingWith closedWith
+  written e f w = (rw (e, le-ltb (length buffer) least f) (λ i. record { refusal = 0; length = w .count i }), rw (e, le-ltb (length buffer) least f) (w .bytes))
+
+  pub untouched : (closingWith least b text (length buffer) .refusal ≡ 0 → ⊥) → closedWith least b text buffer ≡ buffer
+  unfolding closingWith closedWith
+  untouched n = go (eqb (closingRefusal least (b .header) (b .sums .counts) (length buffer)) 0) refl
+    where
+      go : (t : Bool) → eqb (closingRefusal least (b .header) (b .sums .counts) (length buffer)) 0 ≡ t → pick t (onto buffer text) buffer ≡ buffer
+      go true e = absurd (n (eqb-true (closingRefusal least (b .header) (b .sums .counts) (length buffer)) 0 e))
+      go false e = refl
+
+  pub writes : closingWith least b text (length buffer) .refusal ≡ 0 → closedWith least b text buffer ≡ onto buffer text
+  unfolding closingWith closedWith
+  writes e = rw (eq-eqb (closingRefusal least (b .header) (b .sums .counts) (length buffer)) 0 e) refl
+
+pub tells : (least : ℕ) (b : Book) (text : List ℕ) (size : ℕ) → closingWith least b text size .refusal ≡ 0 → closingWith least b text size .length ≡ length text
+unfolding closingWith
+tells least b text size e = rw (eq-eqb (closingRefusal least (b .header) (b .sums .counts) size) 0 e) refl
+
+-- When, and only when, each number is answered.
+
+-- 6's test in inequalities
+pub few : (h : Header) (c : Counts) → (tooFew h c ≡ true) ↔ ((c .loans < h .loans) ⊎ (c .unscored < h .unscored))
+few h c = (to (ltb (c .loans) (h .loans)) refl, ⊎-elim (λ l. rw (lt-ltb (c .loans) (h .loans) l) refl) (λ u. from (ltb (c .loans) (h .loans)) u))
+  where
+    to : (x : Bool) → ltb (c .loans) (h .loans) ≡ x → (x || ltb (c .unscored) (h .unscored)) ≡ true → (c .loans < h .loans) ⊎ (c .unscored < h .unscored)
+    to true e f = inl (ltb-true (c .loans) (h .loans) e)
+    to false e f = inr (ltb-true (c .unscored) (h .unscored) f)
+
+    from : (x : Bool) → c .unscored < h .unscored → (x || ltb (c .unscored) (h .unscored)) ≡ true
+    from true u = refl
+    from false u = lt-ltb (c .unscored) (h .unscored) u
+
+pub enough : (h : Header) (c : Counts) → (tooFew h c ≡ false) ↔ ((h .loans ≤ c .loans) × (h .unscored ≤ c .unscored))
+enough h c = (to (ltb (c .loans) (h .loans)) refl, λ (l, u). rw (le-ltb (c .loans) (h .loans) l, le-ltb (c .unscored) (h .unscored) u) refl)
+  where
+    to : (x : Bool) → ltb (c .loans) (h .loans) ≡ x → (x || ltb (c .unscored) (h .unscored)) ≡ false → (h .loans ≤ c .loans) × (h .unscored ≤ c .unscored)
+    to true e f = absurd (true≢false f)
+    to false e f = (ltb-false (c .loans) (h .loans) e, ltb-false (c .unscored) (h .unscored) f)
+
+abbrev number : Bool → Bool → ℕ
+number x y = pick x 6 (pick y 9 0)
+
+only-6 : (x y : Bool) → (number x y ≡ 6) ↔ (x ≡ true)
+only-6 true y = (λ e. refl, λ e. refl)
+only-6 false true = (λ e. absurd (omega (arith, e)), λ e. absurd (false≢true e))
+only-6 false false = (λ e. absurd (omega (arith, e)), λ e. absurd (false≢true e))
+
+only-9 : (x y : Bool) → (number x y ≡ 9) ↔ ((x ≡ false) × (y ≡ true))
+only-9 true y = (λ e. absurd (omega (arith, e)), λ e. absurd (true≢false (e .0)))
+only-9 false true = (λ e. (refl, refl), λ e. refl)
+only-9 false false = (λ e. absurd (omega (arith, e)), λ e. absurd (false≢true (e .1)))
+
+only-0 : (x y : Bool) → (number x y ≡ 0) ↔ ((x ≡ false) × (y ≡ false))
+only-0 true y = (λ e. absurd (omega (arith, e)), λ e. absurd (true≢false (e .0)))
+only-0 false true = (λ e. absurd (omega (arith, e)), λ e. absurd (true≢false (e .1)))
+only-0 false false = (λ e. (refl, refl), λ e. refl)
+
+module _ (least : ℕ) (h : Header) (c : Counts) (size : ℕ) where
+  pub closes-6 : (closingRefusal least h c size ≡ 6) ↔ ((c .loans < h .loans) ⊎ (c .unscored < h .unscored))
+  closes-6 = (λ e. few h c .0 (only-6 (tooFew h c) (ltb size least) .0 e), λ k. only-6 (tooFew h c) (ltb size least) .1 (few h c .1 k))
+
+  pub closes-9 : (closingRefusal least h c size ≡ 9) ↔ ((h .loans ≤ c .loans) × (h .unscored ≤ c .unscored) × (size < least))
+  closes-9 = (
+    λ e. let (x, y) = only-9 (tooFew h c) (ltb size least) .0 e in (enough h c .0 x .0, enough h c .0 x .1, ltb-true size least y),
+    λ (l, u, z). only-9 (tooFew h c) (ltb size least) .1 (enough h c .1 (l, u), lt-ltb size least z),
+  )
+
+  pub closes-0 : (closingRefusal least h c size ≡ 0) ↔ ((h .loans ≤ c .loans) × (h .unscored ≤ c .unscored) × (least ≤ size))
+  closes-0 = (
+    λ e. let (x, y) = only-0 (tooFew h c) (ltb size least) .0 e in (enough h c .0 x .0, enough h c .0 x .1, ltb-false size least y),
+    λ (l, u, z). only-0 (tooFew h c) (ltb size least) .1 (enough h c .1 (l, u), le-ltb size least z),
+  )

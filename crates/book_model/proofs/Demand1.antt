@@ -1,0 +1,91 @@
+-- Demand 1 over the definitions. Assumes nothing.
+use mathlib.Core.Path.{_≡_, refl, sym}
+use mathlib.Core.Bool.{Bool, true, false}
+use mathlib.Core.List.{List, [], _∷_, List·Memᴰ, List·Memᴰ·head, List·Memᴰ·tail}
+use mathlib.Core.Logic.{_⊎_, ⊎-elim}
+use Prim.Native.Nat.{ℕ}
+use lib.Dec.{eqb, ltb, leb}
+use borrow.Author.Tests.{eqb-true}
+use lib.ListN.{length}
+use Rattle.exact.specs.Choice.{pick}
+use Rattle.line_forms.specs.declared.HeaderLine.{HeaderLine}
+use Rattle.line_forms.specs.declared.HeaderLine.the-variants.{Header as HeaderRead, Refusal as HeaderRefusal}
+use Rattle.line_forms.specs.declared.Line.{Line}
+use Rattle.line_forms.specs.declared.Line.the-variants.{Loan as LoanLine, Policy as PolicyLine, Derivative as DerivativeLine, Asset as AssetLine, Amount as AmountLine, Refusal}
+use Rattle.line_forms.specs.Readings.{lineOf, headerOf}
+use Rattle.line_forms.proofs.HeaderLaws.{header-reading}
+use Rattle.line_forms.proofs.LineLaws.{line-reading}
+use Rattle.figures.specs.Sums.{plus}
+use Rattle.book_model.specs.declared.Book.{Book}
+use Rattle.book_model.specs.Accepted.{mostOther, loanBeyond, refusalFor}
+use Rattle.book_model.specs.Calls.{State, termsIn, stateAt, openingFor, opening, refusalIn, bookAfter, feedingLine, feeding, tooFew, closingWith, closing, closed, reportSize, reportOf}
+use Rattle.book_model.specs.Demand1.{refusedState, Demand1}
+use Rattle.book_model.specs.LineKinds.{contentKind, kindOf}
+use Rattle.book_model.proofs.Closings.{untouched}
+use Rattle.book_model.proofs.Feeding as feeding-laws
+use Rattle.book_model.proofs.Ranged.{ranged, ranged-header}
+
+-- places in a list of numbers
+first : {n x : ℕ} {xs : List ℕ} → n ≡ x → List·Memᴰ n (x ∷ xs)
+first e = List·Memᴰ·head e
+
+later : {n x : ℕ} {xs : List ℕ} → List·Memᴰ n xs → List·Memᴰ n (x ∷ xs)
+later m = List·Memᴰ·tail m
+
+opening-number : (l : HeaderLine) → ((n : ℕ) → l ≡ HeaderRefusal n → (n ≡ 1) ⊎ (n ≡ 2) ⊎ (n ≡ 7) ⊎ (n ≡ 3) ⊎ (n ≡ 4)) → List·Memᴰ (openingFor l .refusal) (0 ∷ 1 ∷ 2 ∷ 7 ∷ 3 ∷ 4 ∷ [])
+unfolding openingFor
+opening-number (HeaderRead h) k = first refl
+opening-number (HeaderRefusal n) k =
+    later (⊎-elim first (λ a. later (⊎-elim first (λ b. later (⊎-elim first (λ c. later (⊎-elim first (λ d. later (first d)) c)) b)) a)) (k n refl))
+
+-- the numbers of feeding, 5 and 8 the last
+abbrev Fed : ℕ → Type 0
+Fed n = List·Memᴰ n (0 ∷ 1 ∷ 2 ∷ 7 ∷ 3 ∷ 5 ∷ 8 ∷ [])
+
+tested-5 : (test : Bool) → Fed (pick test 5 0)
+tested-5 true = later (later (later (later (later (first refl)))))
+tested-5 false = first refl
+
+tested-8 : (test : Bool) → Fed (pick test 8 0)
+tested-8 true = later (later (later (later (later (later (first refl))))))
+tested-8 false = first refl
+
+feeding-number : (s : State) (l : Line) → ((n : ℕ) → l ≡ Refusal n → (n ≡ 1) ⊎ (n ≡ 2) ⊎ (n ≡ 7) ⊎ (n ≡ 3)) → Fed (refusalIn s l)
+unfolding refusalFor contentKind
+feeding-number s (LoanLine l) k = tested-5 (loanBeyond (s .book .header) (s .book .sums .counts) (l .score))
+feeding-number s (PolicyLine p) k = tested-8 (leb mostOther (s .book .sums .counts .other))
+feeding-number s (DerivativeLine d) k = tested-8 (leb mostOther (s .book .sums .counts .other))
+feeding-number s (AssetLine a) k = tested-8 (leb mostOther (s .book .sums .counts .other))
+feeding-number s (AmountLine a) k = tested-8 (leb mostOther (s .book .sums .counts .other))
+feeding-number s (Refusal n) k = later (⊎-elim first (λ a. later (⊎-elim first (λ b. later (⊎-elim first (λ c. later (first c)) b)) a)) (k n refl))
+
+closing-number : (x y : Bool) → List·Memᴰ {A = ℕ} (pick x 6 (pick y 9 0)) (0 ∷ 6 ∷ 9 ∷ [])
+closing-number true y = later (first refl)
+closing-number false true = later (later (first refl))
+closing-number false false = first refl
+
+refused-opening : (l : HeaderLine) → (openingFor l .refusal ≡ 0 → ⊥) → openingFor l .state ≡ refusedState
+unfolding openingFor
+refused-opening (HeaderRead h) n = absurd (n refl)
+refused-opening (HeaderRefusal k) n = refl
+
+refused-feeding : (s : State) (l : Line) → (feedingLine s l .refusal ≡ 0 → ⊥) → feedingLine s l .state ≡ s
+unfolding feedingLine bookAfter
+refused-feeding s l n = go (eqb (refusalIn s l) 0) _ refl
+  where
+    go : (t : Bool) (b : Book) → eqb (refusalIn s l) 0 ≡ t → stateAt (pick t b (s .book)) (s .rates) ≡ s
+    go true b e = absurd (n (eqb-true (refusalIn s l) 0 e))
+    go false b e = refl
+
+pub demand1 : Demand1
+unfolding closingWith feedingLine
+demand1 = record {
+  opening-numbers = λ line. opening-number (headerOf line) (header-reading line .numbers);
+  feeding-numbers = λ s line. feeding-number s (lineOf line) (line-reading line .numbers);
+  closing-numbers = λ b size. closing-number (tooFew (b .header) (b .sums .counts)) (ltb size reportSize);
+  refused-opening = λ line. refused-opening (headerOf line);
+  refused-feeding = λ s line. refused-feeding s (lineOf line);
+  refused-closing = λ b buffer n. untouched reportSize b (reportOf b) buffer n;
+  opening-sound = λ line. feeding-laws.opening-sound (headerOf line) (ranged-header line);
+  feeding-sound = λ s line h. feeding-laws.fed-sound s (lineOf line) h (ranged line);
+}

@@ -1,0 +1,31 @@
+-- Demand 1: a book handed in is taken or turned down by a numbered refusal; a refused line changes nothing in the book, and a refused closing
+-- writes nothing. Over the definitions that the contracts equate with the calls (Calls.antt); proved in proofs/Demand1.antt.
+use Prim.Native.Nat.{ℕ}
+use mathlib.Core.Path.{_≡_}
+use mathlib.Core.Bool.{false}
+use mathlib.Core.List.{List, [], _∷_, List·Memᴰ}
+use lib.ListN.{length}
+use Rattle.figures.specs.Sums.{noSums}
+use Rattle.loan_charge.specs.CreditFactor.{builtInRates}
+use Rattle.book_model.specs.declared.Book.{Book}
+use Rattle.book_model.specs.Calls.{State, Sound, opening, feeding, closing, closed}
+
+-- The value of a refused opening: an all-zero header and no line taken, under the regulator's table.
+abbrev pub refusedState : State
+refusedState = record {
+  book = record { header = record { loans = 0; unscored = 0; aged = false; held = 0 }; sums = noSums };
+  rates = builtInRates;
+}
+
+pub record Demand1 : Type 0 where
+  -- The answer is 0, or the number of a refusal that document 01 names for the call.
+  pub opening-numbers : (line : List ℕ) → List·Memᴰ (opening line .refusal) (0 ∷ 1 ∷ 2 ∷ 7 ∷ 3 ∷ 4 ∷ [])
+  pub feeding-numbers : (s : State) (line : List ℕ) → List·Memᴰ (feeding s line .refusal) (0 ∷ 1 ∷ 2 ∷ 7 ∷ 3 ∷ 5 ∷ 8 ∷ [])
+  pub closing-numbers : (b : Book) (size : ℕ) → List·Memᴰ (closing b size .refusal) (0 ∷ 6 ∷ 9 ∷ [])
+  -- Refused, an opening gives no book but the value above, a feeding the same state, and a closing leaves every byte.
+  pub refused-opening : (line : List ℕ) → (opening line .refusal ≡ 0 → ⊥) → opening line .state ≡ refusedState
+  pub refused-feeding : (s : State) (line : List ℕ) → (feeding s line .refusal ≡ 0 → ⊥) → feeding s line .state ≡ s
+  pub refused-closing : (b : Book) (buffer : List ℕ) → (closing b (length buffer) .refusal ≡ 0 → ⊥) → closed b buffer ≡ buffer
+  -- What a call gives may be handed to the next.
+  pub opening-sound : (line : List ℕ) → Sound (opening line .state)
+  pub feeding-sound : (s : State) (line : List ℕ) → Sound s → Sound (feeding s line .state)

@@ -1,0 +1,10 @@
+-- What the functions below the calls answer. Nothing here has to be believed: the calls' contracts do not name it.
+use Prim.Native.Nat.{ℕ}
+use Rattle.figures.specs.declared.Sums.{Sums}
+use Rattle.book_model.specs.declared.Book.{Book}
+use Rattle.book_model.specs.declared.Fed.{Fed}
+use Rattle.book_model.specs.Calls.{bookWith}
+
+-- the answer where a line that adds these sums meets the refusal n
+abbrev pub answerWith : ℕ → Book → Sums → Fed
+answerWith n b added = record { refusal = n; book = bookWith n b added }

@@ -1,0 +1,222 @@
+-- What the program prints of every input. Assumes nothing.
+use mathlib.Core.Path.{_≡_, refl, sym, _∙_, ap, ap₂, subst}
+use mathlib.Core.Bool.{Bool, true, false}
+use mathlib.Core.List.{List, [], _∷_, _++_, append-assoc, append-nil, List·Permᴰ}
+use Prim.Native.Nat.{ℕ, _+_, _≤_}
+use native.Mathlib.Omega.{arith}
+use lib.Dec.{eqb}
+use lib.ListN.{length, length-append}
+use borrow.Author.Tests.{eqb-true, eqb-false, eq-eqb}
+use Rattle.exact.specs.Choice.{pick}
+use Rattle.report.specs.Line.{refusalLine}
+use Rattle.figures.specs.declared.Counts.{Counts}
+use Rattle.book_model.specs.Accepted.{Accepted, countsIn, refusalOf, accept}
+use Rattle.book_model.specs.Calls.{State, Answer, opening, feeding, tooFew, reportOf}
+use Rattle.book_model.specs.Demand2.{FeedingAnswer}
+use Rattle.book_model.specs.Demand3.{reportFor, Measured}
+use Rattle.book_model.specs.Examples.{workedHeader, workedLines, workedReport}
+use Rattle.book_model.specs.History.{History, opened, fed, allFed, termsOf, acceptedOf, linesTaken}
+use Rattle.book_model.specs.Terms.{Terms}
+use Rattle.book_model.proofs.Closings.{few, enough}
+use Rattle.book_model.proofs.Demand2.{openings, feeding-answer}
+use Rattle.book_model.proofs.Demand3.{opened-is, terms-stay, report-is, report-permuted, measured-of, terms-in-range}
+use Rattle.book_model.proofs.Examples.{twelve, counts-none}
+use Rattle.book_model.proofs.Steps.{stateOf, bookOf, counts, step}
+use Rattle.driver.specs.Printed.{lastOf, linesFrom, linesOf, printedAtEnd, printedFeeding, printedLines, printed}
+use Rattle.driver.specs.Program.{AllTaken, Outcome, no-line, not-opened, not-taken, too-few, report, Reports, workedInput, Program}
+use Rattle.driver.proofs.Law.{stops}
+
+-- Taking lines one after the other
+
+fed-more : (past : History) (lines : List (List ℕ)) (line : List ℕ) → allFed past (lines ++ (line ∷ [])) ≡ fed (allFed past lines) line
+unfolding allFed _++_
+fed-more past [] line = refl
+fed-more past (s ∷ lines) line = fed-more (fed past s) lines line
+
+-- all lines before are taken, and so is this one
+taken-more : (header : List ℕ) (before : List (List ℕ)) (line : List ℕ) → AllTaken header before → refusalOf (termsOf (opened header)) (record { kept = before }) line ≡ 0 → AllTaken header (before ++ (line ∷ []))
+unfolding acceptedOf accept
+taken-more header before line h e =
+    let t : Terms = termsOf (opened header) in
+    record {
+      opens = h .opens;
+      taken =
+          ap (λ (x : History). linesTaken x) (fed-more (opened header) before line)
+          ∙ ap₂ (λ (u : Terms) (kept : List (List ℕ)). accept u (record { kept = kept }) line .kept) (terms-stay (opened header) before) (h .taken)
+          ∙ rw (eq-eqb (refusalOf t (record { kept = before }) line) 0 e) refl;
+    }
+
+accepted-more : (t : Terms) (before : List (List ℕ)) (line : List ℕ) → refusalOf t (record { kept = before }) line ≡ 0 → accept t (record { kept = before }) line ≡ record { kept = before ++ (line ∷ []) }
+unfolding accept
+accepted-more t before line e = rw (eq-eqb (refusalOf t (record { kept = before }) line) 0 e) refl
+
+-- the state of lines that are all taken
+unfoldable stateFor : (header : List ℕ) (lines : List (List ℕ)) → State
+stateFor header lines = stateOf (termsOf (opened header)) (record { kept = lines })
+
+-- with one line more
+fed-taken : (header : List ℕ) (before : List (List ℕ)) (line : List ℕ) → refusalOf (termsOf (opened header)) (record { kept = before }) line ≡ 0 →
+    feeding (stateFor header before) line ≡ record { refusal = 0; state = stateFor header (before ++ (line ∷ [])) }
+unfolding stateFor
+fed-taken header before line z =
+    step (termsOf (opened header)) (record { kept = before }) line
+    ∙ (λ i. record { refusal = z i; state = stateOf (termsOf (opened header)) (accepted-more (termsOf (opened header)) before line z i) })
+
+-- what is printed at their end, from the lines alone
+abbrev atEnd : Terms → List (List ℕ) → ℕ → List ℕ
+atEnd t lines number = pick (tooFew (t .header) (countsIn lines)) (refusalLine 6 number) (reportFor t lines)
+
+end-is : (header : List ℕ) (lines : List (List ℕ)) (number : ℕ) → printedAtEnd (stateFor header lines) number ≡ atEnd (termsOf (opened header)) lines number
+unfolding printedAtEnd stateFor
+end-is header lines number =
+    ap₂ (λ (c : Counts) (r : List ℕ). pick (tooFew (termsOf (opened header) .header) c) (refusalLine 6 number) r) (counts (termsOf (opened header)) lines) (report-is (termsOf (opened header)) lines)
+
+at-end : (header : List ℕ) (lines : List (List ℕ)) → AllTaken header lines → Outcome (header ∷ lines) (atEnd (termsOf (opened header)) lines (2 + length lines))
+at-end header lines h = go (tooFew (termsOf (opened header) .header) (countsIn lines)) refl
+  where
+    go : (b : Bool) → tooFew (termsOf (opened header) .header) (countsIn lines) ≡ b →
+        Outcome (header ∷ lines) (pick b (refusalLine 6 (2 + length lines)) (reportFor (termsOf (opened header)) lines))
+    go true e = too-few header lines h (few (termsOf (opened header) .header) (countsIn lines) .0 e)
+    go false e =
+        let k = enough (termsOf (opened header) .header) (countsIn lines) .0 e in
+        report header lines h (k .0) (k .1) (measured-of (termsOf (opened header)) (terms-in-range (opened header)) lines)
+
+-- and of lines after those
+feeding-on : (header : List ℕ) (before : List (List ℕ)) (lines : List (List ℕ)) → AllTaken header before → (number : ℕ) → number ≡ 2 + length before →
+    Outcome (header ∷ (before ++ lines)) (printedFeeding (stateFor header before) number lines)
+unfolding printedFeeding stateFor
+feeding-on header before [] h number e = rw (append-nil before, e, end-is header before (2 + length before)) (at-end header before h)
+feeding-on header before (line ∷ lines) h number e =
+    rw (step (termsOf (opened header)) (record { kept = before }) line)
+    (go (eqb (refusalOf (termsOf (opened header)) (record { kept = before }) line) 0) refl (feeding-on header (before ++ (line ∷ [])) lines))
+  where
+    n : ℕ
+    n = refusalOf (termsOf (opened header)) (record { kept = before }) line
+
+    go : (b : Bool) → eqb n 0 ≡ b →
+        (AllTaken header (before ++ (line ∷ [])) → (k : ℕ) → k ≡ 2 + length (before ++ (line ∷ [])) →
+        Outcome (header ∷ ((before ++ (line ∷ [])) ++ lines)) (printedFeeding (stateFor header (before ++ (line ∷ []))) k lines)) →
+        Outcome (header ∷ (before ++ (line ∷ lines)))
+        (pick b (printedFeeding (stateOf (termsOf (opened header)) (accept (termsOf (opened header)) (record { kept = before }) line)) (number + 1) lines) (refusalLine n number))
+    go true f ih =
+        let z : n ≡ 0 = eqb-true n 0 f in
+        let more : AllTaken header (before ++ (line ∷ [])) = taken-more header before line h z in
+        let m : length (before ++ (line ∷ [])) ≡ length before + 1 = length-append before (line ∷ []) in
+        let same : accept (termsOf (opened header)) (record { kept = before }) line ≡ record { kept = before ++ (line ∷ []) } = accepted-more (termsOf (opened header)) before line z in
+        rw same (rw (append-assoc before (line ∷ []) lines) at (ih more (number + 1) (omega arith)))
+    go false f ih = rw e (not-taken header before line lines n (eqb-false n 0 f) h (feeding-answer (termsOf (opened header)) (record { kept = before }) line))
+
+-- an opened header has no line taken
+opened-state : (header : List ℕ) → opening header .state ≡ stateFor header []
+unfolding stateFor acceptedOf
+opened-state header = opened-is header
+
+none-taken : (header : List ℕ) → opening header .refusal ≡ 0 → AllTaken header []
+unfolding allFed acceptedOf
+none-taken header e = record { opens = e; taken = refl }
+
+outcome : (lines : List (List ℕ)) → Outcome lines (printedLines lines)
+unfolding printedLines
+outcome [] = no-line
+outcome (header ∷ lines) = rw (opened-state header) (go (eqb (opening header .refusal) 0) refl)
+  where
+    go : (b : Bool) → eqb (opening header .refusal) 0 ≡ b → Outcome (header ∷ lines) (pick b (printedFeeding (stateFor header []) 2 lines) (refusalLine (opening header .refusal) 1))
+    go true e = feeding-on header [] lines (none-taken header (eqb-true (opening header .refusal) 0 e)) 2 refl
+    go false e = not-opened header lines (opening header .refusal) (eqb-false (opening header .refusal) 0 e) refl (openings header)
+
+-- Lines that are all taken print what stands at their end.
+
+fed-on : (past : History) (a b : List (List ℕ)) → allFed past (a ++ b) ≡ allFed (allFed past a) b
+unfolding allFed _++_
+fed-on past [] b = refl
+fed-on past (s ∷ a) b = fed-on (fed past s) a b
+
+accepted-few : (t : Terms) (a : Accepted) (line : List ℕ) → length (accept t a line .kept) ≤ length (a .kept) + 1
+unfolding accept
+accepted-few t a line = go (eqb (refusalOf t a line) 0)
+  where
+    go : (b : Bool) → length (pick b (a .kept ++ (line ∷ [])) (a .kept)) ≤ length (a .kept) + 1
+    go true = rw (length-append (a .kept) (line ∷ [])) (omega arith)
+    go false = omega arith
+
+taken-few : (past : History) (lines : List (List ℕ)) → length (linesTaken (allFed past lines)) ≤ length (linesTaken past) + length lines
+unfolding allFed acceptedOf
+taken-few past [] = omega arith
+taken-few past (line ∷ lines) = omega (arith, taken-few (fed past line) lines, accepted-few (termsOf past) (acceptedOf past) line)
+
+-- a refused line among them would be missing
+none-refused : (header : List ℕ) (before : List (List ℕ)) (line : List ℕ) (lines : List (List ℕ)) → AllTaken header before → AllTaken header (before ++ (line ∷ lines)) →
+    eqb (refusalOf (termsOf (opened header)) (record { kept = before }) line) 0 ≡ false → ⊥
+unfolding allFed acceptedOf accept
+none-refused header before line lines h k e =
+    let past : History = fed (allFed (opened header) before) line in
+    let same : linesTaken (fed (allFed (opened header) before) line) ≡ before =
+    ap₂ (λ (u : Terms) (kept : List (List ℕ)). accept u (record { kept = kept }) line .kept) (terms-stay (opened header) before) (h .taken) ∙ rw e refl in
+    let all : linesTaken (allFed past lines) ≡ before ++ (line ∷ lines) = sym (ap (λ (x : History). linesTaken x) (fed-on (opened header) before (line ∷ lines))) ∙ k .taken in
+    omega (arith, taken-few past lines, ap length same, ap length all, length-append before (line ∷ lines))
+
+all-fed : (header : List ℕ) (before lines : List (List ℕ)) (number : ℕ) → AllTaken header before → AllTaken header (before ++ lines) → number ≡ 2 + length before →
+    printedFeeding (stateFor header before) number lines ≡ printedAtEnd (stateFor header (before ++ lines)) (2 + length (before ++ lines))
+unfolding printedFeeding
+all-fed header before [] number h k e = rw (append-nil before, e) refl
+all-fed header before (line ∷ lines) number h k e =
+    go (eqb (refusalOf (termsOf (opened header)) (record { kept = before }) line) 0) refl (all-fed header (before ++ (line ∷ [])) lines)
+  where
+    t : Terms
+    t = termsOf (opened header)
+
+    n : ℕ
+    n = refusalOf (termsOf (opened header)) (record { kept = before }) line
+
+    go : (b : Bool) → eqb n 0 ≡ b →
+        ((m : ℕ) → AllTaken header (before ++ (line ∷ [])) → AllTaken header ((before ++ (line ∷ [])) ++ lines) → m ≡ 2 + length (before ++ (line ∷ [])) →
+        printedFeeding (stateFor header (before ++ (line ∷ []))) m lines ≡ printedAtEnd (stateFor header ((before ++ (line ∷ [])) ++ lines)) (2 + length ((before ++ (line ∷ [])) ++ lines))) →
+        printedFeeding (stateFor header before) number (line ∷ lines) ≡ printedAtEnd (stateFor header (before ++ (line ∷ lines))) (2 + length (before ++ (line ∷ lines)))
+    go true f ih =
+        let z : refusalOf (termsOf (opened header)) (record { kept = before }) line ≡ 0 = eqb-true n 0 f in
+        let m : length (before ++ (line ∷ [])) ≡ length before + 1 = length-append before (line ∷ []) in
+        let same : (before ++ (line ∷ [])) ++ lines ≡ before ++ (line ∷ lines) = append-assoc before (line ∷ []) lines in
+        rw (fed-taken header before line z)
+        (ih (number + 1) (taken-more header before line h z) (rw same k) (omega arith)
+        ∙ ap (λ (l : List (List ℕ)). printedAtEnd (stateFor header l) (2 + length l)) same)
+    go false f ih = absurd (none-refused header before line lines h k f)
+
+-- An input that gives a report prints it.
+reported : (header : List ℕ) (lines : List (List ℕ)) → Reports header lines → printedLines (header ∷ lines) ≡ reportFor (termsOf (opened header)) lines
+unfolding printedLines
+reported header lines r =
+    let t : Terms = termsOf (opened header) in
+    rw (eq-eqb (opening header .refusal) 0 (r .all .opens))
+    (ap (λ (s : State). printedFeeding s 2 lines) (opened-state header)
+    ∙ all-fed header [] lines 2 (none-taken header (r .all .opens)) (r .all) refl
+    ∙ end-is header lines (2 + length lines)
+    ∙ rw (enough (t .header) (countsIn lines) .1 (r .loans, r .unscored)) refl)
+
+same-report : (t : Terms) {lines others : List (List ℕ)} → List·Permᴰ lines others → reportFor t lines ≡ reportFor t others
+same-report t {lines} {others} p = sym (report-is t lines) ∙ report-permuted t p ∙ report-is t others
+
+alike : (header : List ℕ) (lines others : List (List ℕ)) (x y : List ℕ) → linesOf x ≡ header ∷ lines → linesOf y ≡ header ∷ others →
+    Reports header lines → Reports header others → List·Permᴰ lines others → printed x ≡ printed y
+alike header lines others x y e f r q p =
+    ap printedLines e ∙ reported header lines r ∙ same-report (termsOf (opened header)) p ∙ sym (reported header others q) ∙ sym (ap printedLines f)
+
+-- document 01's worked input
+worked-reports : Reports workedHeader workedLines
+worked-reports =
+    record {
+      all = record { opens = twelve .opens12; taken = twelve .taken12 };
+      loans = omega (arith, counts-none .0);
+      unscored = omega (arith, counts-none .1);
+    }
+
+worked-lines : linesOf workedInput ≡ workedHeader ∷ workedLines
+unfolding linesFrom lastOf
+worked-lines = refl
+
+worked : printed workedInput ≡ workedReport
+worked =
+    ap printedLines worked-lines ∙ reported workedHeader workedLines worked-reports
+    ∙ ap (reportFor (termsOf (opened workedHeader))) (sym (twelve .taken12)) ∙ twelve .example12
+
+pub program : Program
+program = record { prints = λ input. outcome (linesOf input); alike = alike; stops = stops; worked = worked }

@@ -1,0 +1,67 @@
+-- What the program prints of every input, in the words of demands 2 and 3. `printed` is what its reading and finishing write
+-- (contract of `finish`); proved in proofs/Program.antt.
+use Prim.Native.Nat.{ℕ, _+_, _≤_, _<_}
+use mathlib.Core.Path.{_≡_}
+use mathlib.Core.List.{List, [], _∷_, _++_, List·Permᴰ}
+use mathlib.Core.Logic.{_⊎_}
+use lib.ListN.{length}
+use Rattle.exact.specs.Text.{text}
+use Rattle.report.specs.Line.{refusalLine}
+use Rattle.book_model.specs.Accepted.{countsIn}
+use Rattle.book_model.specs.Calls.{opening}
+use Rattle.book_model.specs.Demand2.{OpeningAnswer, FeedingAnswer}
+use Rattle.book_model.specs.Demand3.{reportFor, Measured}
+use Rattle.book_model.specs.Examples.{workedReport}
+use Rattle.book_model.specs.History.{opened, allFed, termsOf, acceptedOf, linesTaken}
+use Rattle.driver.specs.Printed.{linesOf, printed}
+use Rattle.driver.specs.Reading.{Reading, fromStart, withBytes}
+
+-- The header line opens a book and all these lines after it are taken.
+pub record AllTaken (header : List ℕ) (lines : List (List ℕ)) : Type 0 where
+  pub opens : opening header .refusal ≡ 0
+  pub taken : linesTaken (allFed (opened header) lines) ≡ lines
+
+-- What is printed of lines, the first of them the header.
+pub data Outcome : (lines : List (List ℕ)) (out : List ℕ) → Type 0 where
+  -- Empty input prints (refused 2 1).
+  no-line : Outcome [] (refusalLine 2 1)
+  -- The header line is refused with n: (refused n 1).
+  not-opened : (header : List ℕ) (lines : List (List ℕ)) (n : ℕ) → (n ≡ 0 → ⊥) → opening header .refusal ≡ n →
+      OpeningAnswer header (opening header) → Outcome (header ∷ lines) (refusalLine n 1)
+  -- All lines before it are taken and this one is refused with n: (refused n L), L its number.
+  not-taken : (header : List ℕ) (before : List (List ℕ)) (line : List ℕ) (others : List (List ℕ)) (n : ℕ) → (n ≡ 0 → ⊥) → AllTaken header before →
+      FeedingAnswer (termsOf (opened header)) (record { kept = before }) line n → Outcome (header ∷ (before ++ (line ∷ others))) (refusalLine n (2 + length before))
+  -- All lines are taken and too few of them are loans, or loans without a score: (refused 6 L), L the number after the last line.
+  too-few : (header : List ℕ) (lines : List (List ℕ)) → AllTaken header lines →
+      ((countsIn lines .loans < termsOf (opened header) .header .loans) ⊎ (countsIn lines .unscored < termsOf (opened header) .header .unscored)) →
+      Outcome (header ∷ lines) (refusalLine 6 (2 + length lines))
+  -- All lines are taken and there are as many loans as the header counts: the report of the lines, whose required amount is never below
+  -- the exact requirement and less than the allowance above it.
+  report : (header : List ℕ) (lines : List (List ℕ)) → AllTaken header lines →
+      termsOf (opened header) .header .loans ≤ countsIn lines .loans → termsOf (opened header) .header .unscored ≤ countsIn lines .unscored →
+      Measured (termsOf (opened header)) lines → Outcome (header ∷ lines) (reportFor (termsOf (opened header)) lines)
+
+-- An input that prints a report.
+pub record Reports (header : List ℕ) (lines : List (List ℕ)) : Type 0 where
+  pub all : AllTaken header lines
+  pub loans : termsOf (opened header) .header .loans ≤ countsIn lines .loans
+  pub unscored : termsOf (opened header) .header .unscored ≤ countsIn lines .unscored
+
+-- From here on more input changes nothing: a line was refused, or the line being read has over 240 bytes.
+abbrev pub Settled : Reading → Type 0
+Settled s = (s .stage .refusal ≡ 0 → ⊥) ⊎ (240 < length (s .tail))
+
+-- the worked input, in which every line ends in a newline
+abbrev pub workedInput : List ℕ
+workedInput =
+    text "(book (loans 0) (unscored 0) (scores fresh) (held 0))\n(asset (amount 100000) (factor 25))\n(claims 1001)\n(equity 1000)\n(c 100)\n"
+
+pub record Program : Type 0 where
+  pub prints : (input : List ℕ) → Outcome (linesOf input) (printed input)
+  -- Two inputs with the same header line and the same lines in whatever order that both print a report print the same bytes.
+  pub alike : (header : List ℕ) (lines others : List (List ℕ)) (x y : List ℕ) → linesOf x ≡ header ∷ lines → linesOf y ≡ header ∷ others →
+      Reports header lines → Reports header others → List·Permᴰ lines others → printed x ≡ printed y
+  -- The program may stop reading there.
+  pub stops : (input more : List ℕ) → Settled (withBytes fromStart input) → printed (input ++ more) ≡ printed input
+  -- Document 01's worked input prints its report.
+  pub worked : printed workedInput ≡ workedReport
