@@ -42,6 +42,34 @@ OTHER_KINDS = (
     b"(claims 7)\n(lossc 7)\n(stated 7)\n(equity 7)\n(aoci -7)\n(b 7)\n"
 )
 ALL_OTHERS = OTHER_KINDS * (book.OTHER_LINES // OTHER_KINDS.count(b"\n"))
+
+
+def _provisions():
+    """Each cell of 002, 3.3, at both ends of its column, and the years before and after: a home policy shows in moved, a multi-unit one in rest."""
+    terms = sorted({1, 480} | {term for limit in book.TERM_LIMITS for term in (limit, limit + 1)})
+    for term in terms:
+        for done in (*range(len(book.PROVISIONS) + 2), 40):
+            yield HEADER + b"(policy (class home) (prem 99999999) (term %d) (done %d))\n(policy (class multi) (prem 100000000) (term %d) (done %d))\n" % (
+                term, done, term, done,
+            )
+
+
+def _add_ons():
+    """Each kind of 002, 4.2.1.1 at both ends of its three columns, for one payment and for several."""
+    for kind in book.ADD_ONS:
+        for months in (0, 12, 13, 60, 61, 600):
+            for cost, payments in ((0, 1), (7, 3)):
+                yield HEADER + b"(deriv (kind %s) (cost %d) (notional 99999999999) (months %d) (pays %d) (factor 9999))\n" % (
+                    kind, cost, months, payments,
+                )
+
+
+def _negative_weights():
+    """Loans, each alone at m 3.0, whose total is one too low where the exponential of a negative weight is rounded up as the others are."""
+    for numbers in ((92937, 125231, 1, 61), (119021, 143973, 3, 60), (161132, 195440, 2, 8)):
+        yield _header(1, 1) + b"(loan (bal %d) (val %d) (amort %d) (term %d) (score none) (sup 0))\n" % numbers
+
+
 FIXED = (
     # the input: its lines, and the end of the last
     b"",
@@ -90,6 +118,10 @@ FIXED = (
     HEADER + ALL_OTHERS + b"x\n",
     HEADER + ALL_OTHERS + HEADER,
     HEADER + ALL_OTHERS + b"(asset (amount 7) (factor 10001))\n",
+    # every cell of the tables of 002, and loans that are near a whole cent
+    *_provisions(),
+    *_add_ons(),
+    *_negative_weights(),
 )
 
 

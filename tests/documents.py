@@ -1,7 +1,15 @@
 #!/usr/bin/env python3
-"""Checks that every file and folder of this repository that README.md and docs/ name in backquotes is there.
+"""Checks what the pages name in backquotes: that the files are there, that the names are, and that each stands in the file it is said to be in.
 
-NAME stands for any crate. A name counts where its first part is a folder at the top, or a crate before `must-fail/`, `specs/`, `proofs/` or `src/`. The last line is 'N passed, M failed'.
+Pages are README.md, all of docs/, and the README.md of other folders. What is checked:
+
+- a file: `crates/..`, `tests/..` and so on, or CRATE/must-fail/LABEL. NAME stands for any crate.
+- a name: a word, or several joined by `.` or `::`, as `Closes.answers` or `figures::add`. Each part must be a name in crates/ (source,
+  definitions or proofs, comments left out), in a script or a book of this repository, or one of KNOWN below.
+- a name in a file: of "`a`, `b` in `crates/..`" and of "`crates/..`: `a`, `b`" both a and b must stand in that file.
+- README.md names each crate of crates.txt, and in its picture of the layers a crate stands above all that it is built on.
+
+The last line is 'N passed, M failed'.
 """
 import re
 import sys
@@ -10,32 +18,132 @@ from pathlib import Path
 ROOT = Path(__file__).resolve().parent.parent
 TOP = ("crates", "tests", "bench", "docs", "examples", ".ci")
 PARTS = ("must-fail", "specs", "proofs", "src")
+# Names from outside the repository, and words that stand for others.
+KNOWN = {"NAME", "LABEL", "FILE", "refusedN", "lem", "ac"}
+WORD = r"[A-Za-z_][A-Za-z0-9_]*(?:['-][A-Za-z0-9_]+)*'*"
+
+
+def code_of(path):
+    """A source without its comments."""
+    text = path.read_text(encoding="utf-8")
+    return re.sub(r"//.*" if path.suffix == ".rt" else r"(?m)^\s*--.*|\s--\s.*", "", text)
+
+
+def words_of(text):
+    """Its words, whole and, where hyphens join them, in parts."""
+    found = set(re.findall(WORD, text))
+    return found | {part for word in found for part in word.split("-")}
+
+
+def names():
+    """Every name of the repository."""
+    found = set(KNOWN)
+    for path in ROOT.glob("crates/*/**/*"):
+        if path.suffix in (".rt", ".antt"):
+            found |= words_of(code_of(path))
+        if path.suffix in (".rt", ".antt", ".edit"):
+            found |= {path.stem, path.name}
+    for folder in ("tests", "bench", "examples", ".ci"):
+        for path in ROOT.glob(f"{folder}/**/*"):
+            if path.is_file() and path.suffix not in (".md", ".pyc", ".report") and path != Path(__file__).resolve():
+                found |= words_of(path.read_text(encoding="utf-8", errors="replace")) | {path.stem, path.name}
+    found |= words_of((ROOT / "capital").read_text(encoding="utf-8"))
+    return found | {path.name for path in ROOT.rglob("*.md")} | {path.name for path in ROOT.glob("crates/*")} | set(PARTS)
 
 
 def places(name):
-    """Where a name may stand; none if it names no file of the repository."""
+    """Where a file may stand; none if it names no file of the repository."""
     first, *others = name.split("/")
     if "NAME" in others:
         return []
     if first in TOP and others:
-        return [ROOT / name]
+        return list(ROOT.glob(name)) if "*" in name else [ROOT / name]
     if others and others[0] in PARTS and (ROOT / "crates" / first).is_dir():
         return [ROOT / "crates" / name, ROOT / "crates" / (name + ".edit")]
     return []
 
 
+def parts(name):
+    """The parts of a name, or none if it is no plain name."""
+    plain = re.sub(r"\(\)$", "", name)
+    if not re.fullmatch(rf"{WORD}(?:(?:\.|::){WORD})*", plain) or re.fullmatch(r"[A-Z]?[0-9]+", plain):
+        return []
+    return re.split(r"\.|::", plain)
+
+
+def page_problems(page, known):
+    """How many names of a page are right, and what is wrong with the others."""
+    text = page.read_text(encoding="utf-8")
+    text = re.sub(r"(?ms)^    [^\n]*$|```.*?```", "", text)
+    right, wrong = 0, []
+
+    def count(well, what):
+        nonlocal right
+        right += well
+        if not well:
+            wrong.append(what)
+
+    for name in re.findall(r"`([^`\n]+)`", text):
+        where = places(name.rstrip("/")) if re.fullmatch(r"[A-Za-z0-9_.+/*-]+", name) else []
+        if where:
+            count(any(place.exists() for place in where), f"there is no {name}")
+        elif name in known:
+            right += 1
+        else:
+            for part in parts(name):
+                count(part in known, f"no {part}, as in `{name}`")
+    listed = rf"`{WORD}(?:(?:\.|::){WORD})*(?:\(\))?`"
+    group = rf"{listed}(?:(?:, | and |, and ){listed})*"
+    file = r"`(crates/[A-Za-z0-9_./-]+\.(?:rt|antt))`"
+    said = [(name, these) for these, name in re.findall(rf"({group}) (?:in|of) {file}", text)] + re.findall(rf"{file}: ({group})", text)
+    for name, these in said:
+        there = words_of(code_of(ROOT / name)) if (ROOT / name).is_file() else set()
+        for word in re.findall(WORD, " ".join(re.findall(r"`(.*?)`", these))):
+            count(word in there, f"{name} has no {word}")
+    return right, wrong
+
+
+def crates():
+    """Each crate of crates.txt, with the crates that it is built on."""
+    listed = re.sub(r"#.*", "", (ROOT / "crates.txt").read_text(encoding="utf-8"))
+    needs = {name: rest.split() for name, rest in re.findall(r"(?m)^(\w+):(.*)$", listed)}
+    return {name: [below for below in rest if below in needs] for name, rest in needs.items()}
+
+
+def readme_problems():
+    """What is wrong with what README.md says of the crates, and how much is right."""
+    text = (ROOT / "README.md").read_text(encoding="utf-8")
+    needs = crates()
+    said = {f"README.md: says nothing of the crate {name}": f"`{name}`" in text for name in needs}
+    rows = [line.split("|")[0].split() for line in re.search(r"```\n(.*?)```", text, re.S)[1].splitlines()]
+    height = {name: -i for i, row in enumerate(rows) for name in row}
+    of_program, more = set(), ["capital"]
+    while more:
+        name = more.pop()
+        of_program.add(name)
+        more += [below for below in needs[name] if below not in of_program]
+    said |= {f"README.md: the layers have no {name}": name in height for name in of_program}
+    said |= {f"README.md: {name} is no crate": name in needs for name in height}
+    for name in of_program & set(height):
+        for below in set(needs[name]) & set(height):
+            said[f"README.md: {name} does not stand above {below}"] = height[name] > height[below]
+    return sum(said.values()), [what for what, well in said.items() if not well]
+
+
 def main():
+    known = names()
     passed = failed = 0
-    for page in [ROOT / "README.md", *sorted((ROOT / "docs").rglob("*.md"))]:
-        for name in re.findall(r"`([A-Za-z0-9_.+/-]+)`", page.read_text(encoding="utf-8")):
-            where = places(name.rstrip("/"))
-            if not where:
-                continue
-            if any(place.exists() for place in where):
-                passed += 1
-            else:
-                failed += 1
-                print(f"{page.relative_to(ROOT)}: there is no {name}")
+    pages = [ROOT / "README.md", *sorted((ROOT / "docs").rglob("*.md")), *sorted(ROOT.glob("*/README.md"))]
+    for page in pages:
+        right, wrong = page_problems(page, known)
+        passed += right
+        failed += len(wrong)
+        for what in wrong:
+            print(f"{page.relative_to(ROOT)}: {what}")
+    right, wrong = readme_problems()
+    passed += right
+    failed += len(wrong)
+    print("".join(what + "\n" for what in sorted(wrong)), end="")
     print(f"{passed} passed, {failed} failed")
     sys.exit(1 if failed or not passed else 0)
 
