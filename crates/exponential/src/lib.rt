@@ -6,8 +6,13 @@ ghost use Rattle.exponential.specs.Table.{entries};
 
 mod values;
 
+// How many entries the table has: exp(-k/64) for k from 0 to 1536.
+pub const ENTRIES: usize = 1537;
+
+pub type Exponentials = [u64; ENTRIES];
+
 // The table. It is made once and lent from then on: a constant array is stored whole at each use.
-pub fn table() -> [u64; 1537]
+pub fn table() -> Exponentials
     ensures { λ r. ⌜ r ≡ entries ⌝ }
 {
     values::TABLE
@@ -46,7 +51,7 @@ fn lower(t: u64, d: u64) -> u64
 }
 
 // At or above exp(-y), in units of 2^-40; y in units of 2^-38.
-pub fn exp_upper(y: u64, table: &[u64; 1537]) -> u64
+pub fn exp_upper(y: u64, table: &Exponentials) -> u64
     requires { ⌜ now table ≡ entries ⌝ }
     ensures { λ r. ⌜ r ≡ expUpper y ⌝ }
 {

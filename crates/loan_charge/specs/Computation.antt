@@ -6,6 +6,7 @@ use Rattle.fixed_point.specs.Quotient.{scaledProduct}
 use Rattle.exponential.specs.Exponential.{expUpper}
 use Rattle.coefficients.specs.Coefficients.{firstSet}
 use Rattle.coefficients.specs.Integers.{scaledA, scaledB, scaledC, tenthsB}
+use Rattle.loan_charge.specs.declared.LoanInputs.{LoanInputs}
 use Rattle.loan_charge.specs.declared.charge.Heights.{Heights}
 use Rattle.loan_charge.specs.declared.charge.LoanCharge.{LoanCharge}
 use Rattle.fixed_point.specs.declared.Signed.{Signed}
@@ -120,18 +121,9 @@ unfoldable pub chargeFrom : Bool → Signed → ℕ → LoanCharge
 chargeFrom true base r = record { total = roundedUp base (times base r); supplement = roundedDown (times base r) }
 chargeFrom false base r = record { total = roundedUp base none; supplement = none }
 
--- A loan's two numbers: its base plus supplement, and its supplement, in cents. Value over balance is p / q, m is in 10^-17.
-unfoldable pub chargeOf : (p q balance months term : ℕ) (supplement : Bool) (m : ℕ) → LoanCharge
-chargeOf p q balance months term supplement m =
-    chargeFrom supplement
-    (baseUnits (firstSet term) (scaledValue p q) balance months m)
-    (rateUnits (firstSet term) (scaledValue p q) months)
-
--- the numbers of a loan for which this is a charge
-pub record Chargeable (q balance months m : ℕ) : Type 0 where
-  pub divisor-least : 1 ≤ q
-  pub divisor-most : q ≤ 2 * 10 ^ 16
-  pub balance-most : balance ≤ 2 * 10 ^ 8
-  pub months-least : 1 ≤ months
-  pub months-most : months ≤ 480
-  pub factor-most : m ≤ 3 * 10 ^ 17
+-- A loan's two numbers: its base plus supplement, and its supplement, in cents.
+unfoldable pub chargeOf : LoanInputs → LoanCharge
+chargeOf l =
+    chargeFrom (l .supplement)
+    (baseUnits (firstSet (l .term)) (scaledValue (l .value) (l .over)) (l .balance) (l .months) (l .factor))
+    (rateUnits (firstSet (l .term)) (scaledValue (l .value) (l .over)) (l .months))

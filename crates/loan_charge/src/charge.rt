@@ -5,8 +5,10 @@ ghost use mathlib.Core.Bool.{true, false};
 ghost use Rattle.exponential.specs.Table.{entries};
 ghost use Rattle.loan_charge.specs.Tables.{exponentials};
 ghost use Rattle.fixed_point.specs.Quotient.{scaledProduct};
-ghost use Rattle.loan_charge.specs.Computation.{unit, scaledValue, distance, deviations, exponent, height, heights, Usable, weighted, factor, rate, sum, times, signed, roundedUp, roundedDown, baseUnits, rateUnits, chargeFrom, chargeOf, Chargeable};
+ghost use Rattle.loan_charge.specs.Computation.{unit, scaledValue, distance, deviations, exponent, height, heights, Usable, weighted, factor, rate, sum, times, signed, roundedUp, roundedDown, baseUnits, rateUnits, chargeFrom, chargeOf};
+ghost use Rattle.loan_charge.specs.Charge.{Chargeable};
 ghost use Rattle.coefficients.specs.Integers.{Months};
+use crate::LoanInputs;
 use coefficients::ScaledCurve;
 use coefficients::curve_a;
 use coefficients::curve_b;
@@ -17,6 +19,9 @@ use fixed_point::Division;
 use fixed_point::Signed;
 use fixed_point::division_step;
 use fixed_point::scaled_product;
+
+// The exponential's table, under a name for the layers above.
+pub type Exponentials = exponential::Exponentials;
 
 // A loan's base plus supplement, and its supplement, in cents.
 pub struct LoanCharge {
@@ -105,14 +110,14 @@ fn exponent_of(w: u64, mean: u64, deviation: u64) -> u64
 }
 
 // exp(-(z - mean)² / (2 deviation²)), never below it.
-fn height_of(w: u64, mean: u64, deviation: u64, table: &[u64; 1537]) -> u64
+fn height_of(w: u64, mean: u64, deviation: u64, table: &Exponentials) -> u64
     requires { ⌜ (w ≤ 16 * unit) × (mean < 2 ^ 20) × (8192 ≤ deviation) × (now table ≡ entries) ⌝ }
     ensures { λ r. ⌜ r ≡ height w mean deviation ⌝ }
 {
     exponential::exp_upper(exponent_of(w, mean, deviation), table)
 }
 
-fn heights_of(w: u64, c: ScaledCurve, table: &[u64; 1537]) -> Heights
+fn heights_of(w: u64, c: ScaledCurve, table: &Exponentials) -> Heights
     requires { ⌜ (w ≤ 16 * unit) × Usable c × (now table ≡ entries) ⌝ }
     ensures { λ r. ⌜ r ≡ heights w c ⌝ }
 {
@@ -152,7 +157,7 @@ fn sum_of(x: Signed, y: Signed) -> Signed
 }
 
 // k times the curve at z.
-fn curve_units(k: u64, w: u64, c: ScaledCurve, table: &[u64; 1537]) -> Signed
+fn curve_units(k: u64, w: u64, c: ScaledCurve, table: &Exponentials) -> Signed
     requires { ⌜ (k ≤ 2 * 10 ^ 8) × (w ≤ 16 * unit) × Usable c × (now table ≡ entries) ⌝ }
     ensures { λ r. ⌜ r ≡ weighted k c (heights w c) ⌝ }
 {
@@ -226,7 +231,14 @@ fn rounded_down(x: Signed) -> Signed
 }
 
 // The base: A counts 10^7 times and B by the balance in cents, both in 12ths.
-fn base_units(first: bool, w: u64, balance: u64, months: u64, m: u64, table: &[u64; 1537]) -> Signed
+fn base_units(
+    first: bool,
+    w: u64,
+    balance: u64,
+    months: u64,
+    m: u64,
+    table: &Exponentials,
+) -> Signed
     requires { ⌜ (w ≤ 16 * unit) × (balance ≤ 2 * 10 ^ 8) × Months months × (m ≤ 3 * 10 ^ 17) × (now table ≡ entries) ⌝ }
     ensures { λ r. ⌜ r ≡ baseUnits first w balance months m ⌝ }
 {
@@ -236,7 +248,7 @@ fn base_units(first: bool, w: u64, balance: u64, months: u64, m: u64, table: &[u
 }
 
 // r of the supplement.
-fn rate_units(first: bool, w: u64, months: u64, table: &[u64; 1537]) -> u64
+fn rate_units(first: bool, w: u64, months: u64, table: &Exponentials) -> u64
     requires { ⌜ (unit ≤ w) × (w ≤ 16 * unit) × Months months × (now table ≡ entries) ⌝ }
     ensures { λ r. ⌜ r ≡ rateUnits first w months ⌝ }
 {
@@ -266,31 +278,22 @@ fn without_supplement(base: Signed) -> LoanCharge
 }
 
 // The exponential's table, to be made once and lent to `charge`.
-pub fn table() -> [u64; 1537]
+pub fn table() -> Exponentials
     ensures { λ r. ⌜ r ≡ exponentials ⌝ }
 {
     exponential::table()
 }
 
-// A loan's two numbers, for value over balance p / q and m in 10^-17.
-pub fn charge(
-    p: u64,
-    q: u64,
-    balance: u64,
-    months: u64,
-    term: u64,
-    supplement: bool,
-    m: u64,
-    table: &[u64; 1537],
-) -> LoanCharge
-    requires { ⌜ Chargeable q balance months m × (now table ≡ entries) ⌝ }
-    ensures { λ r. ⌜ r ≡ chargeOf p q balance months term supplement m ⌝ }
+// A loan's two numbers.
+pub fn charge(l: LoanInputs, exps: &Exponentials) -> LoanCharge
+    requires { ⌜ Chargeable l × (now exps ≡ entries) ⌝ }
+    ensures { λ r. ⌜ r ≡ chargeOf l ⌝ }
 {
-    let w = scaled_value(p, q);
-    let first = first_set(term);
-    let base = base_units(first, w, balance, months, m, table);
-    if supplement {
-        with_supplement(base, rate_units(first, w, months, table))
+    let w = scaled_value(l.value, l.over);
+    let first = first_set(l.term);
+    let base = base_units(first, w, l.balance, l.months, l.factor, exps);
+    if l.supplement {
+        with_supplement(base, rate_units(first, w, l.months, exps))
     } else {
         without_supplement(base)
     }

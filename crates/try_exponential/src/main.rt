@@ -6,6 +6,7 @@ ghost use lib.ListN.{length};
 ghost use Rattle.exponential.specs.Table.{entries};
 use cases::Tally;
 use cases::Tried;
+use exponential::Exponentials;
 
 // The tally so far, and whether the input goes on.
 struct Block {
@@ -21,7 +22,7 @@ fn print_outside(y: u64, got: u64) {
     io::write_all(1, b"\n");
 }
 
-fn is_within(y: u64, least: u64, greatest: u64, table: &[u64; 1537]) -> bool
+fn is_within(y: u64, least: u64, greatest: u64, table: &Exponentials) -> bool
     requires { ⌜ now table ≡ entries ⌝ }
 {
     let got = exponential::exp_upper(y, table);
@@ -32,7 +33,7 @@ fn is_within(y: u64, least: u64, greatest: u64, table: &[u64; 1537]) -> bool
     ok
 }
 
-fn try_case(s: &[u8], at: usize, table: &[u64; 1537]) -> Tried
+fn try_case(s: &[u8], at: usize, table: &Exponentials) -> Tried
     requires { ⌜ (at < length (now s)) × (now table ≡ entries) ⌝ }
     ensures { λ r. ⌜ (at < r .next) × (r .next ≤ length (now (s .entry))) ⌝ }
 {
@@ -46,7 +47,7 @@ fn try_case(s: &[u8], at: usize, table: &[u64; 1537]) -> Tried
 }
 
 // The cases of one block of the input.
-fn try_cases(s: &[u8], before: Tally, table: &[u64; 1537]) -> Tally
+fn try_cases(s: &[u8], before: Tally, table: &Exponentials) -> Tally
     requires { ⌜ now table ≡ entries ⌝ }
 {
     let mut tally = before;
@@ -60,7 +61,7 @@ fn try_cases(s: &[u8], before: Tally, table: &[u64; 1537]) -> Tally
 }
 
 // Reads a block, which holds whole lines, and tries its cases.
-fn try_block(before: Block, table: &[u64; 1537]) -> Block
+fn try_block(before: Block, table: &Exponentials) -> Block
     requires { ⌜ now table ≡ entries ⌝ }
 {
     let mut buf = io::large_buffer();
@@ -76,7 +77,7 @@ fn try_block(before: Block, table: &[u64; 1537]) -> Block
 }
 
 // The blocks of the input. Nothing says that it ends, so their number is counted down from one that no run uses up.
-fn try_all(table: &[u64; 1537]) -> Tally
+fn try_all(table: &Exponentials) -> Tally
     requires { ⌜ now table ≡ entries ⌝ }
 {
     let mut block = Block {
