@@ -1,7 +1,7 @@
 -- What it means that an answer is at or above, or near, an exact quantity (document 01, "The exponential").
 use Prim.Native.Nat.{ℕ, _≤_}
 use mathlib.Core.List.{List, List·Memᴰ}
-use Rattle.exact.specs.Fraction.{Fraction, Proper, _⊕_, _⊖_, _≼_, _≺_, _≈_}
+use Rattle.exact.specs.Fraction.{Fraction, Proper, Equals, _⊕_, _⊖_, _≼_, _≺_, _≈_}
 use Rattle.exact.specs.Exponential.{Allowed, InBracket, bracketHigh}
 
 -- Gives each exponent y a value to stand for exp(-y).
@@ -12,6 +12,20 @@ Assignment = Fraction → Fraction
 pub record Quantity : Type 0 where
   pub exponents : List Fraction
   pub value : Assignment → Fraction
+
+-- Two assignments of fractions give the exponentials of the list the same values.
+pub record Agree (ys : List Fraction) (x x′ : Assignment) : Type 0 where
+  pub left : (y : Fraction) → Proper (x y)
+  pub right : (y : Fraction) → Proper (x′ y)
+  pub same : (y : Fraction) → List·Memᴰ y ys → x y ≈ x′ y
+
+-- A value that depends on the exponentials of the list alone.
+pub record DependsOn (ys : List Fraction) (value : Assignment → Fraction) : Type 0 where
+  pub alike : (x x′ : Assignment) → Agree ys x x′ → Equals (value x) (value x′)
+
+-- Every exponent in the quantity is among its exponents. Without this a bound on its values at some order would say nothing.
+abbrev pub Determined : Quantity → Type 0
+Determined q = DependsOn (q .exponents) (q .value)
 
 -- order n is allowed for every exponent of the list
 pub record AllowedAll (n : ℕ) (ys : List Fraction) : Type 0 where

@@ -27,6 +27,7 @@ use Rattle.loan_charge.specs.declared.LoanInputs.{LoanInputs}
 use Rattle.loan_charge.specs.declared.charge.LoanCharge.{LoanCharge}
 use Rattle.fixed_point.specs.declared.Signed.{Signed}
 use Rattle.coefficients.proofs.CoefficientLaws.{Mean, Deviation, ScaledCurveOf, scaled-a, scaled-b, scaled-c, tenths-b}
+use Rattle.loan_charge.proofs.Dependence.{total-determined, supplement-determined}
 use Rattle.loan_charge.proofs.ExactValues.{ValueAt, cents, ratio-is, ratio-proper, exponent-at, curvePlus, curveMinus, curve-proper, curve-is, base-proper, base-is, rate-proper, rate-is, product-is, sum-is}
 use Rattle.loan_charge.proofs.Gauss.{gauss-near, months-near, value-at, exponentNum, exponentDen}
 use Rattle.loan_charge.proofs.Money.{Value, Both, Above, Below, AtMost, both-add, both-times, weighted-near, factor-near, rateNum, rateDen, rate-near, rate-most, rounded-above, rounded-below}
@@ -424,11 +425,13 @@ module _ (l : LoanInputs) (c : Chargeable l) where
         let law = charge-near l c in
         let r : LoanCharge = chargeOf l in
         record {
+          total-determined = total-determined l c;
           total-at-least = takes (totalQuantity l) (λ v. v ≼ signedCents (r .total)) total-exponents (mapped (λ k n. (n .total-proper, n .total-at-least)) law);
           total-near =
               takes (totalQuantity l) (λ v. signedCents (r .total) ≺ v ⊕ g) total-exponents
               (mapped (λ k n. (n .total-proper, wider-total (n .total-proper) (n .total-near))) law);
           total-orders = some-allowed (totalExponents l) total-exponents;
+          supplement-determined = supplement-determined l c;
           supplement-at-most =
               takes (supplementQuantity l) (λ v. signedCents (r .supplement) ≼ v) supplement-exponents
               (mapped (λ k n. (n .supplement-proper, n .supplement-at-most)) law);

@@ -1,5 +1,6 @@
 pub mod ChargeLaws
 pub mod CreditLaws
+pub mod Dependence
 pub mod ExactValues
 pub mod Examples
 pub mod Gauss

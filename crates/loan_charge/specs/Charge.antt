@@ -4,7 +4,7 @@ use mathlib.Core.Path.{_≡_}
 use mathlib.Core.Bool.{Bool, true, false}
 use mathlib.Core.List.{List, [], _∷_, _++_}
 use Rattle.exact.specs.Fraction.{Fraction, Proper, quotient, whole, reciprocal, larger, smaller, _⊕_, _⊖_, _⊗_, _≼_, _≺_}
-use Rattle.exact.specs.Quantity.{Assignment, Quantity, AtMost, ExceedsByLess, NeverAbove, LessBelow, SomeAllowed}
+use Rattle.exact.specs.Quantity.{Assignment, Quantity, Determined, AtMost, ExceedsByLess, NeverAbove, LessBelow, SomeAllowed}
 use Rattle.exact.specs.Choice.{pick, upTo}
 use Rattle.coefficients.specs.Coefficients.{Curve, firstSet, curveA, curveB, rateC, rateB}
 use Rattle.loan_charge.specs.declared.LoanInputs.{LoanInputs}
@@ -116,11 +116,13 @@ pub record NearExact (charge : LoanCharge) (total supplement : Fraction) : Type 
   pub supplement-at-most : signedCents (charge .supplement) ≼ supplement
   pub supplement-near : supplement ⊖ tolerance ≺ signedCents (charge .supplement)
 
--- The same in document 01's words, for every order allowed, with g for the tolerance; and some order is allowed.
+-- The same in document 01's words, for every order allowed, with g for the tolerance; some order is allowed, and no exponent is left out.
 pub record Promised (charge : LoanCharge) (total supplement : Quantity) (g : Fraction) : Type 0 where
+  pub total-determined : Determined total
   pub total-at-least : AtMost total (signedCents (charge .total))
   pub total-near : ExceedsByLess total g (signedCents (charge .total))
   pub total-orders : SomeAllowed (total .exponents)
+  pub supplement-determined : Determined supplement
   pub supplement-at-most : NeverAbove supplement (signedCents (charge .supplement))
   pub supplement-near : LessBelow supplement g (signedCents (charge .supplement))
   pub supplement-orders : SomeAllowed (supplement .exponents)
