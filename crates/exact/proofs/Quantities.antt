@@ -8,8 +8,13 @@ use native.Mathlib.Nat.{le-max-left, le-max-right, le-trans, mul-le-mul-left}
 use native.Mathlib.Omega.{arith}
 use Rattle.exact.specs.Fraction.{Fraction, Proper}
 use Rattle.exact.specs.Exponential.{Allowed, bracketHigh}
-use Rattle.exact.specs.Quantity.{Assignment, Quantity, AllowedAll, Good, Takes, SomeAllowed, Exponent, Eventually}
+use Rattle.exact.specs.Quantity.{Assignment, Quantity, AllowedAll, Good, Takes, SomeAllowed, Eventually}
 use Rattle.exact.proofs.Bridge.{At, at-of, at-same, inside, high-alike, allowed-of}
+
+-- An exponent: a fraction at or above 0.
+pub record Exponent (y : Fraction) : Type 0 where
+  pub proper : Proper y
+  pub nonnegative : y .minus ≤ y .plus
 
 -- every fraction of the list is an exponent
 abbrev pub Exponents : List Fraction → Type 0

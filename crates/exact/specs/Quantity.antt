@@ -62,11 +62,6 @@ pub record SomeAllowed (ys : List Fraction) : Type 0 where
   pub from : ℕ
   pub allowed : (n : ℕ) → from ≤ n → AllowedAll n ys
 
--- An exponent: a fraction at or above 0.
-pub record Exponent (y : Fraction) : Type 0 where
-  pub proper : Proper y
-  pub nonnegative : y .minus ≤ y .plus
-
 -- With every exp(-y) taken as 1 / E(m), `Holds` is true for all m from some m on. No order or bracket appears in such a law;
 -- since 1 / E(m) lies in the bracket of every allowed order up to m, the statements above follow from it (proofs/Quantities.antt).
 pub record Eventually (Holds : Assignment → Type 0) : Type 0 where

@@ -9,7 +9,8 @@ use native.Mathlib.Nat.{le-of-lt, lt-of-le-of-lt, lt-of-mul-lt-mul-right, mul-le
 use native.Mathlib.Omega.{arith}
 use Rattle.exact.proofs.Enclosure.{below-tail}
 use Rattle.exact.proofs.Sums.{num, den, tailed, tail}
-use Rattle.exponential.specs.Table.{entries, entry, testOrder}
+use Rattle.exponential.specs.Table.{entries, entry}
+use Rattle.exponential.specs.Exponential.{testOrder}
 use Rattle.exponential.proofs.Rule.{Least, Rule}
 use Rattle.exponential.proofs.Every.{both, both-left, both-right, every, at}
 

@@ -94,7 +94,7 @@ five-units = below-tail 1 (lit≤ tt) (lit≤ tt) (lit≤ tt)
 beyond-42 : (y a d : ℕ) → 1536 * 2 ^ 32 ≤ y → Below (expUpper y - 42) (2 ^ 40) a d
 beyond-42 y a d h = rw (from-24 y h) (record { every = λ n. omega arith })
 
-within-42 : (y a d : ℕ) → (2 ^ 38 * a ≤ (y + 5) * d) ⊎ (1536 * 2 ^ 32 ≤ y) → Below (expUpper y - 42) (2 ^ 40) a d
+pub within-42 : (y a d : ℕ) → (2 ^ 38 * a ≤ (y + 5) * d) ⊎ (1536 * 2 ^ 32 ≤ y) → Below (expUpper y - 42) (2 ^ 40) a d
 within-42 y a d (inr h) = beyond-42 y a d h
 within-42 y a d (inl close) =
     elim (decLe (1536 * 2 ^ 32) y) [
@@ -105,11 +105,15 @@ within-42 y a d (inl close) =
           (below-exponent (lit≤ tt) (omega arith) (below-product (lit≤ tt) (within-16 y (omega arith)) five-units))
     ]
 
+-- The value is at or above exp(-a/d) for every larger exponent a/d.
+pub above-at : (y a d : ℕ) → y * d ≤ 2 ^ 38 * a → Above (expUpper y) (2 ^ 40) a d
+above-at y a d low = above-exponent (lit≤ tt) (omega arith) (at-or-above y)
+
 -- The exponent a/d may lie up to 5 units above y, or anywhere above it where y is 24 or more.
 pub near : (y a d : ℕ) → 0 < d → y * d ≤ 2 ^ 38 * a → (2 ^ 38 * a ≤ (y + 5) * d) ⊎ (1536 * 2 ^ 32 ≤ y) → Near (expUpper y) a d
 near y a d pos low high =
     let u : ℕ = expUpper y in
-    let above : Above u (2 ^ 40) a d = above-exponent (lit≤ tt) (omega arith) (at-or-above y) in
+    let above : Above u (2 ^ 40) a d = above-at y a d low in
     record {
       from = above .order;
       above = above-from pos above;

@@ -1,4 +1,5 @@
--- exp(-y) in fixed point, never below it: from the table and, between two entries, the first terms of the alternating series.
+-- Need not be believed: Promise.antt says what it is worth. exp(-y) in fixed point, from the table and, between two entries, the first terms
+-- of the alternating series.
 use Prim.Native.Nat.{ℕ, _*_, _-_, _/_, _%_, _^_}
 use mathlib.Core.Bool.{true, false}
 use lib.Dec.{leb}
@@ -32,3 +33,7 @@ expUpper y =
       | true ↦ entry 1536
       | false ↦ lowered (entry (y / 2 ^ 32)) (decrease (4 * (y % 2 ^ 32)))
     ]
+
+-- The order at which the rule is tested: the smallest that decides every entry.
+abbrev pub testOrder : ℕ
+testOrder = 46

@@ -203,7 +203,3 @@ entries =
 
 abbrev pub entry : ℕ → ℕ
 entry k = getD entries k 0
-
--- The order at which the rule is tested: the smallest that decides every entry.
-abbrev pub testOrder : ℕ
-testOrder = 46

@@ -9,24 +9,27 @@ use native.Mathlib.Omega.{arith}
 use native.Mathlib.Nat.{mul-pos, mul-le-mul}
 use Rattle.exact.specs.Fraction.{Fraction, Proper, quotient, whole, _⊕_, _⊖_, _⊗_, _≼_, _≺_, _≈_}
 use Rattle.exact.specs.Exponential.{bracketHigh}
-use Rattle.exact.specs.Quantity.{Assignment, Quantity, Exponent, Eventually}
+use Rattle.exact.specs.Quantity.{Assignment, Quantity, Eventually}
 use Rattle.exact.proofs.Fractions
 use Rattle.exact.proofs.Bridge.{At, high-is, high-proper}
-use Rattle.exact.proofs.Quantities.{Exponents, takes, mapped, some-allowed, no-exponents, more-exponents, appended-exponents}
+use Rattle.exact.proofs.Quantities.{Exponent, Exponents, takes, mapped, some-allowed, no-exponents, more-exponents, appended-exponents}
 use Rattle.exact.proofs.Within.{Within}
 use Rattle.exact.proofs.Sums.{num, den, num-pos}
 use Rattle.exponential.specs.Exponential.{expUpper}
 use Rattle.exponential.proofs.Laws as Exponential
 use Rattle.exact.specs.Choice.{pick}
 use Rattle.coefficients.specs.Coefficients.{Curve, firstSet, curveA, curveB}
-use Rattle.coefficients.specs.Integers.{Months, scaledA, scaledB, scaledC, tenthsB}
-use Rattle.loan_charge.specs.Charge.{valueRatio, ratioOf, curveAOf, curveBOf, gaussExponent, exponent1, exponent2, exactBase, rateA, exactRate, exactSupplement, exactTotal, baseExponents, rateExponents, allExponents, totalExponents, supplementExponents, totalQuantity, supplementQuantity, signedCents, tolerance, Chargeable, NearExact, Promised, InRange}
+use Rattle.coefficients.specs.Coefficients.{Months}
+use Rattle.coefficients.specs.Integers.{scaledA, scaledB, scaledC, tenthsB}
+use Rattle.loan_charge.specs.Charge.{valueRatio, ratioOf, curveAOf, curveBOf, gaussExponent, exponent1, exponent2, exactBase, rateA, exactRate, exactSupplement, exactTotal, baseExponents, rateExponents, allExponents, totalExponents, supplementExponents, totalQuantity, supplementQuantity, Chargeable}
+use Rattle.loan_charge.specs.Promise.{signedCents, tolerance, NearExact, Promised, InRange}
 use Rattle.loan_charge.specs.Computation.{scaleA, scaledValue, signed, height, heights, weighted, sum, times, roundedUp, roundedDown, none, baseUnits, rateUnits, chargeFrom, chargeOf}
 use Rattle.coefficients.specs.declared.ScaledCurve.{ScaledCurve}
 use Rattle.loan_charge.specs.declared.LoanInputs.{LoanInputs}
 use Rattle.loan_charge.specs.declared.charge.LoanCharge.{LoanCharge}
 use Rattle.fixed_point.specs.declared.Signed.{Signed}
-use Rattle.coefficients.proofs.CoefficientLaws.{Mean, Deviation, ScaledCurveOf, scaled-a, scaled-b, scaled-c, tenths-b}
+use Rattle.coefficients.specs.Promise.{Mean, Deviation, ScaledCurveOf}
+use Rattle.coefficients.proofs.CoefficientLaws.{scaled-a, scaled-b, scaled-c, tenths-b}
 use Rattle.loan_charge.proofs.Dependence.{total-determined, supplement-determined}
 use Rattle.loan_charge.proofs.ExactValues.{ValueAt, cents, ratio-is, ratio-proper, exponent-at, curvePlus, curveMinus, curve-proper, curve-is, base-proper, base-is, rate-proper, rate-is, product-is, sum-is}
 use Rattle.loan_charge.proofs.Gauss.{gauss-near, months-near, value-at, exponentNum, exponentDen}

@@ -13,7 +13,7 @@ use Rattle.exact.specs.Quantity.{Assignment}
 use Rattle.coefficients.specs.Coefficients.{Curve}
 use Rattle.loan_charge.specs.Charge.{valueRatio, gaussExponent, exponent1, exponent2, curveValue}
 use Rattle.coefficients.specs.declared.ScaledCurve.{ScaledCurve}
-use Rattle.coefficients.proofs.CoefficientLaws.{ScaledCurveOf}
+use Rattle.coefficients.specs.Promise.{ScaledCurveOf}
 use Rattle.loan_charge.proofs.Gauss.{exponentNum, exponentDen}
 use Rattle.loan_charge.proofs.Money.{limitedNum, rateNum, rateDen}
 

@@ -6,5 +6,6 @@ pub mod Examples
 pub mod Gauss
 pub mod Money
 pub mod Near
+pub mod Promise
 pub mod ScaledValue
 pub mod Sizes

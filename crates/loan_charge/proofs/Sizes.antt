@@ -8,13 +8,15 @@ use native.Mathlib.Nat.{mul-le-mul, le-trans}
 use Rattle.exponential.specs.Exponential.{expUpper}
 use Rattle.exponential.proofs.Laws as Exponential
 use Rattle.coefficients.specs.Coefficients.{Curve}
-use Rattle.coefficients.specs.Integers.{Months, scaledA, scaledB, scaledC, tenthsB}
+use Rattle.coefficients.specs.Coefficients.{Months}
+use Rattle.coefficients.specs.Integers.{scaledA, scaledB, scaledC, tenthsB}
 use Rattle.loan_charge.specs.Computation.{scaleA, exponent, height, heights, Usable, weighted, factor, rate, sum, times, baseUnits, rateUnits}
 use Rattle.coefficients.specs.declared.ScaledCurve.{ScaledCurve}
 use Rattle.loan_charge.specs.declared.charge.Heights.{Heights}
 use Rattle.loan_charge.specs.declared.charge.LoanCharge.{LoanCharge}
 use Rattle.fixed_point.specs.declared.Signed.{Signed}
-use Rattle.coefficients.proofs.CoefficientLaws.{ScaledCurveOf, scaled-a, scaled-b, tenths-b}
+use Rattle.coefficients.specs.Promise.{ScaledCurveOf}
+use Rattle.coefficients.proofs.CoefficientLaws.{scaled-a, scaled-b, tenths-b}
 use Rattle.loan_charge.proofs.Money.{Weights, Small, AtMost, weighted-most, times-most}
 
 -- Equal values have equal parts.

@@ -1,15 +1,12 @@
 -- The exact charge of a loan in cents (document 01, "The loan charge"; 000, 1.1.2, 1.1.3 and 1.1.5), once each exp(-y) has a value.
-use Prim.Native.Nat.{ℕ, _*_, _^_, _≤_, min}
-use mathlib.Core.Path.{_≡_}
+use Prim.Native.Nat.{ℕ, _*_, _^_, _≤_}
 use mathlib.Core.Bool.{Bool, true, false}
 use mathlib.Core.List.{List, [], _∷_, _++_}
-use Rattle.exact.specs.Fraction.{Fraction, Proper, quotient, whole, reciprocal, larger, smaller, _⊕_, _⊖_, _⊗_, _≼_, _≺_}
-use Rattle.exact.specs.Quantity.{Assignment, Quantity, Determined, AtMost, ExceedsByLess, NeverAbove, LessBelow, SomeAllowed}
+use Rattle.exact.specs.Fraction.{Fraction, quotient, whole, reciprocal, larger, smaller, _⊕_, _⊖_, _⊗_}
+use Rattle.exact.specs.Quantity.{Assignment, Quantity}
 use Rattle.exact.specs.Choice.{pick, upTo}
 use Rattle.coefficients.specs.Coefficients.{Curve, firstSet, curveA, curveB, rateC, rateB}
 use Rattle.loan_charge.specs.declared.LoanInputs.{LoanInputs}
-use Rattle.loan_charge.specs.declared.charge.LoanCharge.{LoanCharge}
-use Rattle.fixed_point.specs.declared.Signed.{Signed}
 
 -- 000, 1.1.5: z = p / q, value over balance, or 1 if that is less (1 / LTV, with LTV at most 100%)
 unfoldable pub valueRatio : ℕ → ℕ → Fraction
@@ -97,38 +94,3 @@ pub record Chargeable (l : LoanInputs) : Type 0 where
   pub months-least : 1 ≤ l .months
   pub months-most : l .months ≤ 480
   pub factor-most : l .factor ≤ 3 * 10 ^ 17
-
--- plus - minus cents
-abbrev pub signedCents : Signed → Fraction
-signedCents x = record { plus = x .plus; minus = x .minus; over = 1 }
-
--- 1.05 cents; document 01 asks for 2
-abbrev pub tolerance : Fraction
-tolerance = quotient 105 100
-
--- A loan's two numbers beside the exact ones: the total is never below and less than `tolerance` above, the supplement never above
--- and less than `tolerance` below.
-pub record NearExact (charge : LoanCharge) (total supplement : Fraction) : Type 0 where
-  pub total-proper : Proper total
-  pub total-at-least : total ≼ signedCents (charge .total)
-  pub total-near : signedCents (charge .total) ≺ total ⊕ tolerance
-  pub supplement-proper : Proper supplement
-  pub supplement-at-most : signedCents (charge .supplement) ≼ supplement
-  pub supplement-near : supplement ⊖ tolerance ≺ signedCents (charge .supplement)
-
--- The same in document 01's words, for every order allowed, with g for the tolerance; some order is allowed, and no exponent is left out.
-pub record Promised (charge : LoanCharge) (total supplement : Quantity) (g : Fraction) : Type 0 where
-  pub total-determined : Determined total
-  pub total-at-least : AtMost total (signedCents (charge .total))
-  pub total-near : ExceedsByLess total g (signedCents (charge .total))
-  pub total-orders : SomeAllowed (total .exponents)
-  pub supplement-determined : Determined supplement
-  pub supplement-at-most : NeverAbove supplement (signedCents (charge .supplement))
-  pub supplement-near : LessBelow supplement g (signedCents (charge .supplement))
-  pub supplement-orders : SomeAllowed (supplement .exponents)
-
--- a number of cents from -100,000 to 300,000,000; plus or minus is 0
-pub record InRange (x : Signed) : Type 0 where
-  pub most : x .plus ≤ 3 * 10 ^ 8
-  pub least : x .minus ≤ 10 ^ 5
-  pub one-sided : min (x .plus) (x .minus) ≡ 0

@@ -1,5 +1,5 @@
--- A loan's two numbers in fixed point, as the code computes them. No other crate unfolds these definitions:
--- what they promise stands in proofs/ChargeLaws.antt.
+-- Need not be believed: Promise.antt says how far these numbers are from the exact ones. A loan's two numbers in fixed point, as the code
+-- computes them. No other crate unfolds these definitions.
 use Prim.Native.Nat.{ℕ, _+_, _*_, _-_, _/_, _^_, _≤_, _<_, min, max}
 use mathlib.Core.Bool.{Bool, true, false}
 use Rattle.fixed_point.specs.Quotient.{scaledProduct}

@@ -7,7 +7,7 @@ ghost use Rattle.loan_charge.specs.Tables.{exponentials};
 ghost use Rattle.fixed_point.specs.Quotient.{scaledProduct};
 ghost use Rattle.loan_charge.specs.Computation.{unit, scaledValue, distance, deviations, exponent, height, heights, Usable, weighted, factor, rate, sum, times, signed, roundedUp, roundedDown, baseUnits, rateUnits, chargeFrom, chargeOf};
 ghost use Rattle.loan_charge.specs.Charge.{Chargeable};
-ghost use Rattle.coefficients.specs.Integers.{Months};
+ghost use Rattle.coefficients.specs.Coefficients.{Months};
 use crate::LoanInputs;
 use coefficients::ScaledCurve;
 use coefficients::curve_a;
