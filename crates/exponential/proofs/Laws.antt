@@ -13,7 +13,7 @@ use Rattle.exponential.specs.Exponential.{lowered, decrease, expUpper}
 use Rattle.exponential.specs.Table.{entries, entry}
 use Rattle.exponential.proofs.Between.{above-between, below-between}
 use Rattle.exponential.proofs.Entries.{rule, entry-bounded}
-use Rattle.exponential.proofs.Steps.{decrease-most, beyond, between}
+use Rattle.exponential.proofs.Steps.{nothing-lowered, beyond, between}
 
 -- The last entry.
 last : entry 1536 ≡ 42
@@ -24,15 +24,9 @@ last = refl
 pub from-24 : (y : ℕ) → 1536 * 2 ^ 32 ≤ y → expUpper y ≡ 42
 from-24 y h = beyond y h ∙ last
 
-nothing-lowered : (t : ℕ) → lowered t (decrease 0) ≡ t
-unfolding lowered
-nothing-lowered t =
-    let z : decrease 0 ≡ 0 = omega (arith, decrease-most 0) in
-    rw z (omega arith)
-
 -- By cases: below 24, and from there on.
 by-24 : (P : ℕ → Type 0) (y : ℕ) →
-    (y < 1536 * 2 ^ 32 → P (lowered (entry (y / 2 ^ 32)) (decrease (4 * (y % 2 ^ 32))))) → (1536 * 2 ^ 32 ≤ y → P (entry 1536)) → P (expUpper y)
+    (y < 1536 * 2 ^ 32 → P (lowered (entry (y / 2 ^ 32)) (decrease (y % 2 ^ 32)))) → (1536 * 2 ^ 32 ≤ y → P (entry 1536)) → P (expUpper y)
 by-24 P y below above =
     elim (decLe (1536 * 2 ^ 32) y) [
       | yes h ↦ rw (beyond y h) (above h)
@@ -59,7 +53,7 @@ lowered-most t d = omega arith
 pub bounded : (y : ℕ) → expUpper y ≤ 2 ^ 40
 bounded y =
     by-24 (λ (u : ℕ). u ≤ 2 ^ 40) y
-    (λ h. le-trans (lowered-most (entry (y / 2 ^ 32)) (decrease (4 * (y % 2 ^ 32)))) (entry-bounded (y / 2 ^ 32) (omega arith)))
+    (λ h. le-trans (lowered-most (entry (y / 2 ^ 32)) (decrease (y % 2 ^ 32))) (entry-bounded (y / 2 ^ 32) (omega arith)))
     (λ h. entry-bounded 1536 (le-refl 1536))
 
 -- The value is at or above exp(-y).
