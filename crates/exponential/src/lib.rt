@@ -46,7 +46,7 @@ fn less_one(x: u64) -> u64
 // 1 - exp(-r) for r below one 64th, rounded down; r in units of 2^-38, the result in units of 2^-40.
 fn decrease_of(r: u64) -> u64
     requires { ⌜ r < 2 ^ 32 ⌝ }
-    ensures { λ d. ⌜ d ≡ decrease r ⌝ }
+    ensures { λ d. ⌜ (d ≡ decrease r) × (d < 2 ^ 34) ⌝ }
 {
     let s = half_square(r);
     let v = third_part(r, s);

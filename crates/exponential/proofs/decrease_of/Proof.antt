@@ -1,9 +1,9 @@
 -- `exponential::decrease_of` meets its contract: half the square is at most r, and its product with the third part fits. Assumes nothing.
 use borrow.Author.Needs.{needs}
-use mathlib.Core.Path.{refl}
+use mathlib.Core.Path.{_≡_, refl}
 use native.Mathlib.Omega.{arith}
 use Rattle.exponential.specs.Exponential.{decrease}
-use Rattle.exponential.proofs.Steps.{half-square-most, parts-fit}
+use Rattle.exponential.proofs.Steps.{half-square-most, parts-fit, decrease-most}
 use Rattle.exponential.proofs.decrease_of.Statement.{statement}
 use Rattle.exponential.proofs.decrease_of.Tie as tie
 
@@ -18,7 +18,10 @@ add-less-one c = rw (c .third-part .ensures, c .before .half-square .ensures) (o
 
 returns : tie.Need-returns
 unfolding decrease
-returns c = rw (c .less-one .ensures, c .before .third-part .ensures, c .before .before .half-square .ensures) refl
+returns c =
+    let r = c .before .before .before .args .r in
+    let e : c .less-one .result ≡ decrease r = rw (c .less-one .ensures, c .before .third-part .ensures, c .before .before .half-square .ensures) refl in
+    (e, omega (arith, e, decrease-most r (c .before .before .before .pre)))
 
 pub decrease-of-spec : {M : Type 1} → statement M
 decrease-of-spec =
