@@ -23,7 +23,7 @@ use Rattle.coefficients.specs.Coefficients.{Months}
 use Rattle.coefficients.specs.Integers.{scaledA, scaledB, scaledC, tenthsB}
 use Rattle.loan_charge.specs.Charge.{valueRatio, ratioOf, curveAOf, curveBOf, gaussExponent, exponent1, exponent2, exactBase, rateA, exactRate, exactSupplement, exactTotal, baseExponents, rateExponents, allExponents, totalExponents, supplementExponents, totalQuantity, supplementQuantity, Chargeable}
 use Rattle.loan_charge.specs.Promise.{signedCents, tolerance, NearExact, Promised, InRange}
-use Rattle.loan_charge.specs.Computation.{scaleA, scaledValue, signed, height, heights, weighted, sum, times, roundedUp, roundedDown, none, baseUnits, rateUnits, chargeFrom, chargeOf}
+use Rattle.loan_charge.specs.Computation.{scaledValue, ratioUnits, signed, height, heights, curveUnits, curvesSum, aUnits, bUnits, factor, rate, times, roundedUp, roundedDown, none, baseUnits, rateUnits, chargeFrom, chargeOf}
 use Rattle.coefficients.specs.declared.ScaledCurve.{ScaledCurve}
 use Rattle.loan_charge.specs.declared.LoanInputs.{LoanInputs}
 use Rattle.loan_charge.specs.declared.charge.LoanCharge.{LoanCharge}
@@ -33,10 +33,10 @@ use Rattle.coefficients.proofs.CoefficientLaws.{scaled-a, scaled-b, scaled-c, t
 use Rattle.loan_charge.proofs.Dependence.{total-determined, supplement-determined}
 use Rattle.loan_charge.proofs.ExactValues.{ValueAt, cents, ratio-is, ratio-proper, exponent-at, curvePlus, curveMinus, curve-proper, curve-is, base-proper, base-is, rate-proper, rate-is, product-is, sum-is}
 use Rattle.loan_charge.proofs.Gauss.{gauss-near, months-near, value-at, exponentNum, exponentDen}
-use Rattle.loan_charge.proofs.Money.{Value, Both, Above, Below, AtMost, both-add, both-times, weighted-near, factor-near, rateNum, rateDen, rate-near, rate-most, rounded-above, rounded-below}
+use Rattle.loan_charge.proofs.Money.{Value, Both, Above, Below, AtMost, both-add, both-times, weighted-near, curves-near, factor-near, rateNum, rateDen, rate-near, rate-most, rounded-above, rounded-below}
 use Rattle.loan_charge.proofs.Near.{Near}
 use Rattle.loan_charge.proofs.ScaledValue.{held, value-alike}
-use Rattle.loan_charge.proofs.Sizes.{base-most, sum-most, rate-units-most, supplement-most}
+use Rattle.loan_charge.proofs.Sizes.{months-in, base-most, sum-most, rate-units-most, supplement-most}
 
 -- From an enclosure over natural numbers to one of the fraction itself.
 
@@ -74,7 +74,7 @@ record BaseNear (x : Signed) (v : Fraction) : Type 0 where
   positive : 0 < over
   proper : Proper v
   same : v ≈ cents plus minus over
-  both : Both x plus minus over 4557 50 3 8
+  both : Both x plus minus over 4554 41 3 5
   most : AtMost 119205000000000 27150000000 x
 
 record RateNear (r : ℕ) (v : Fraction) : Type 0 where
@@ -130,7 +130,7 @@ module _ {x : Signed} {v : Fraction} (b : BaseNear x v) where
     so-pos : 0 < so
     so-pos = mul-pos (b .positive) (a .positive)
 
-    supplement-both : Both (times x r) sp sm so (2 * 4557 + 1410) (1 + 2 * 50 + 326) (2 * 3 + 1) (1 + 2 * 8 + 1)
+    supplement-both : Both (times x r) sp sm so (2 * 4554 + 1410) (1 + 2 * 41 + 326) (2 * 3 + 1) (1 + 2 * 5 + 1)
     supplement-both =
         both-times 119205000000000 27150000000 2 1410 326 1 1 (b .both) (a .near) (b .most .plus) (b .most .minus) (a .most)
         (record { plus-low = omega arith; plus-high = omega arith; minus-low = omega arith; minus-high = omega arith })
@@ -228,7 +228,7 @@ module _ (l : LoanInputs) (c : Chargeable l) where
   first = firstSet (l .term)
 
   abbrev w : ℕ
-  w = scaledValue (l .value) (l .over)
+  w = ratioUnits l
 
   abbrev z : Fraction
   z = ratioOf l
@@ -239,14 +239,11 @@ module _ (l : LoanInputs) (c : Chargeable l) where
   abbrev b : ScaledCurve
   b = scaledB first (l .months)
 
-  months-in : Months (l .months)
-  months-in = record { least = c .months-least; most = c .months-most }
-
   a-is : ScaledCurveOf 29856 45960 905 (curveAOf l) a
-  a-is = scaled-a (l .months) months-in first
+  a-is = scaled-a (l .months) (months-in c) first
 
   b-is : ScaledCurveOf 144240 50640 0 (curveBOf l) b
-  b-is = scaled-b (l .months) months-in first
+  b-is = scaled-b (l .months) (months-in c) first
 
   module _ {w₁ p₂ m₂ : ℕ} {curve : Curve} {s : ScaledCurve} (e : ScaledCurveOf w₁ p₂ m₂ curve s) where
     first-enclosed : Enclosed (heights w s .first) (exponent1 curve z)
@@ -272,12 +269,6 @@ module _ (l : LoanInputs) (c : Chargeable l) where
   months-at : Enclosed (expUpper (l .months * 2 ^ 38 / 120)) (quotient (l .months) 120)
   months-at = months-enclosed (l .months)
 
-  abbrev baseOf : Signed
-  baseOf = baseUnits first w (l .balance) (l .months) (l .factor)
-
-  abbrev rateOf : ℕ
-  rateOf = rateUnits first w (l .months)
-
   module _ (exp : Assignment) where
     -- the base at one order
     module _ (v₁ : Valued (heights w a .first) (exp (exponent1 (curveAOf l) z))) (v₂ : Valued (heights w a .second) (exp (exponent2 (curveAOf l) z)))
@@ -285,24 +276,21 @@ module _ (l : LoanInputs) (c : Chargeable l) where
       -- the numerator of A + B × balance / 10^7, of the terms with a plus or with a minus
       abbrev numerator : (ScaledCurve → ℕ → ℕ → ℕ → ℕ → ℕ) → ℕ
       numerator part =
-          scaleA * part a (v₁ .N) (v₁ .D) (v₂ .N) (v₂ .D) * (v₃ .D * v₄ .D) + l .balance * part b (v₃ .N) (v₃ .D) (v₄ .N) (v₄ .D) * (v₁ .D * v₂ .D)
+          10 ^ 7 * part a (v₁ .N) (v₁ .D) (v₂ .N) (v₂ .D) * (v₃ .D * v₄ .D) + l .balance * part b (v₃ .N) (v₃ .D) (v₄ .N) (v₄ .D) * (v₁ .D * v₂ .D)
 
-      curves-both : Both (sum (weighted scaleA a (heights w a)) (weighted (l .balance) b (heights w b))) (numerator curvePlus) (numerator curveMinus)
-          (v₁ .D * v₂ .D * (v₃ .D * v₄ .D)) 1519 4 1 2
+      curves-both : Both (curvesSum (l .balance) (aUnits l) (bUnits l)) (numerator curvePlus) (numerator curveMinus) (v₁ .D * v₂ .D * (v₃ .D * v₄ .D)) 1518 1 1 1
+      unfolding aUnits bUnits curveUnits
       curves-both =
-          both-add
-          (weighted-near scaleA a (heights w a) (v₁ .value) (v₂ .value) 298560000000 459600000000 9050000000 12 18 1
-          (omega (arith, a-is .weight1 .most))
-          (omega (arith, a-is .weight2 .plus-most))
-          (omega (arith, a-is .weight2 .minus-most))
-          (omega arith) (omega arith) (omega arith))
-          (weighted-near (l .balance) b (heights w b) (v₃ .value) (v₄ .value) 28848000000000 10128000000000 0 1102 387 0
-          (mul-le-mul (c .balance-most) (b-is .weight1 .most))
-          (mul-le-mul (c .balance-most) (b-is .weight2 .plus-most))
-          (mul-le-mul (c .balance-most) (b-is .weight2 .minus-most))
-          (omega arith) (omega arith) (omega arith))
+          curves-near
+          (curvePlus a (v₁ .N) (v₁ .D) (v₂ .N) (v₂ .D)) (curveMinus a (v₁ .N) (v₁ .D) (v₂ .N) (v₂ .D))
+          (curvePlus b (v₃ .N) (v₃ .D) (v₄ .N) (v₄ .D)) (curveMinus b (v₃ .N) (v₃ .D) (v₄ .N) (v₄ .D))
+          (l .balance) 1518 1
+          (omega (arith, a-is .weight1 .most, a-is .weight2 .plus-most, mul-le-mul (c .balance-most) (b-is .weight1 .most), mul-le-mul (c .balance-most) (b-is .weight2 .plus-most)))
+          (omega (arith, a-is .weight2 .minus-most, mul-le-mul (c .balance-most) (b-is .weight2 .minus-most)))
+          (weighted-near a (heights w a) (v₁ .value) (v₂ .value))
+          (weighted-near b (heights w b) (v₃ .value) (v₄ .value))
 
-      base-near : BaseNear baseOf (exactBase l exp)
+      base-near : BaseNear (baseUnits l) (exactBase l exp)
       unfolding baseUnits exactBase
       base-near =
           let A-proper = curve-proper a-is z exp (v₁ .exact) (v₂ .exact) in
@@ -320,19 +308,19 @@ module _ (l : LoanInputs) (c : Chargeable l) where
             same = base-is A-proper A-same B-proper B-same A-pos B-pos (l .balance) (l .factor);
             both =
                 both-times 39735000000000 9050000000 3 0 37 0 1 curves-both (factor-near (l .factor))
-                (sum-most first w (l .balance) months-in (c .balance-most) .plus) (sum-most first w (l .balance) months-in (c .balance-most) .minus) (c .factor-most)
+                (sum-most l c .plus) (sum-most l c .minus) (c .factor-most)
                 (record { plus-low = omega arith; plus-high = omega arith; minus-low = omega arith; minus-high = omega arith });
-            most = base-most first w (l .balance) (l .months) (l .factor) months-in (c .balance-most) (c .factor-most);
+            most = base-most l c;
           }
 
     -- r at one order
     module _ (v : Valued (expUpper (l .months * 2 ^ 38 / 120)) (exp (quotient (l .months) 120))) where
-      supplement-rate-near : RateNear rateOf (exactRate l exp)
+      supplement-rate-near : RateNear (rateUnits l) (exactRate l exp)
       unfolding rateUnits exactRate rateA
       supplement-rate-near =
           let pos : 0 < l .over = c .divisor-least in
-          let C = scaled-c (l .months) months-in first in
-          let B = tenths-b (l .months) months-in first in
+          let C = scaled-c (l .months) (months-in c) first in
+          let B = tenths-b (l .months) (months-in c) first in
           let h = held (l .value) (l .over) pos in
           let pz = ratio-proper (l .value) (l .over) pos in
           let sz = ratio-is (l .value) (l .over) in
@@ -344,7 +332,7 @@ module _ (l : LoanInputs) (c : Chargeable l) where
             same = rate-is pz sz pos (h .value) (C .proper) (C .same) (B .proper) (B .same) (v .exact);
             near = rate-near (scaledC first (l .months)) (tenthsB first (l .months)) h (B .most) (v .value);
             most = rate-most (max (l .value) (l .over)) (l .over) (scaledC first (l .months)) (tenthsB first (l .months)) (B .most) (v .value);
-            bound = rate-units-most first w (l .months) months-in;
+            bound = rate-units-most l c;
           }
 
   -- With exp(-y) taken as 1 / E(k), for every k from some k on, both numbers are near the exact ones.
@@ -352,11 +340,11 @@ module _ (l : LoanInputs) (c : Chargeable l) where
   start : ℕ
   start = A₁ .near .from + A₂ .near .from + B₁ .near .from + B₂ .near .from + months-at .near .from
 
-  base-at : (k : ℕ) → start ≤ k → BaseNear baseOf (exactBase l (bracketHigh k))
+  base-at : (k : ℕ) → start ≤ k → BaseNear (baseUnits l) (exactBase l (bracketHigh k))
   unfolding start
   base-at k h = base-near (bracketHigh k) (valued A₁ k (omega arith)) (valued A₂ k (omega arith)) (valued B₁ k (omega arith)) (valued B₂ k (omega arith))
 
-  rate-at : (k : ℕ) → start ≤ k → RateNear rateOf (exactRate l (bracketHigh k))
+  rate-at : (k : ℕ) → start ≤ k → RateNear (rateUnits l) (exactRate l (bracketHigh k))
   unfolding start
   rate-at k h = supplement-rate-near (bracketHigh k) (valued months-at k (omega arith))
 
@@ -364,9 +352,9 @@ module _ (l : LoanInputs) (c : Chargeable l) where
   unfolding chargeOf exactTotal exactSupplement
   charge-near = record { from = start; holds = λ k h. go (l .supplement) (base-at k h) (rate-at k h) }
     where
-      go : {v s : Fraction} (t : Bool) → BaseNear baseOf v → RateNear rateOf s → NearExact (chargeFrom t baseOf rateOf) (v ⊕ pick t (s ⊗ v) (whole 0)) (pick t (s ⊗ v) (whole 0))
+      go : {v s : Fraction} (t : Bool) → BaseNear (baseUnits l) v → RateNear (rateUnits l) s → NearExact (chargeFrom t (baseUnits l) (rateUnits l)) (v ⊕ pick t (s ⊗ v) (whole 0)) (pick t (s ⊗ v) (whole 0))
       go true x y = together x y
-      go false x y = alone x rateOf
+      go false x y = alone x (rateUnits l)
 
 -- Every exponent in the charge is a fraction at or above 0.
 
@@ -465,9 +453,7 @@ charge-small {x} false h k = (up-range x none (h .plus) (omega arith), record { 
 pub charge-range : (l : LoanInputs) → Chargeable l → InRange (chargeOf l .total) × InRange (chargeOf l .supplement)
 unfolding chargeOf
 charge-range l c =
-    charge-small (l .supplement)
-    (base-most (first l c) (w l c) (l .balance) (l .months) (l .factor) (months-in l c) (c .balance-most) (c .factor-most))
-    (rate-units-most (first l c) (w l c) (l .months) (months-in l c))
+    charge-small (l .supplement) (base-most l c) (rate-units-most l c)
 
 -- Where no supplement applies its number is 0.
 pub no-supplement : (l : LoanInputs) → l .supplement ≡ false → chargeOf l .supplement ≡ none
@@ -485,9 +471,11 @@ pub charge-alike : (l : LoanInputs) (value over : ℕ) → 0 < l .over → 0 < o
       supplement = l .supplement;
       factor = l .factor;
     })
-unfolding chargeOf
+unfolding chargeOf baseUnits rateUnits aUnits bUnits
 charge-alike l value over pos pos' e =
-    ap (λ (w : ℕ). chargeFrom (l .supplement) (baseUnits (firstSet (l .term)) w (l .balance) (l .months) (l .factor)) (rateUnits (firstSet (l .term)) w (l .months)))
+    ap (λ (w : ℕ). chargeFrom (l .supplement)
+    (times (curvesSum (l .balance) (curveUnits w (scaledA (firstSet (l .term)) (l .months))) (curveUnits w (scaledB (firstSet (l .term)) (l .months)))) (factor (l .factor)))
+    (rate w (scaledC (firstSet (l .term)) (l .months)) (tenthsB (firstSet (l .term)) (l .months)) (expUpper (l .months * 2 ^ 38 / 120))))
     (value-alike (l .value) (l .over) value over pos pos' e)
 
 -- The same as distances, for sums over many loans.

@@ -19,6 +19,7 @@ use Rattle.coefficients.proofs.CoefficientLaws.{scaled-a, scaled-b, scaled-c}
 use Rattle.loan_charge.specs.declared.LoanInputs.{LoanInputs}
 use Rattle.loan_charge.specs.Charge.{ratioOf, curveAOf, curveBOf, exponent1, exponent2, curveValue, exactBase, rateA, exactRate, exactSupplement, exactTotal, baseExponents, rateExponents, allExponents, totalExponents, supplementExponents, totalQuantity, supplementQuantity, Chargeable}
 use Rattle.loan_charge.proofs.ExactValues.{ratio-proper}
+use Rattle.loan_charge.proofs.Sizes.{months-in}
 
 curve-depends : {w p m : ℕ} {curve : Curve} {s : ScaledCurve} → ScaledCurveOf w p m curve s → (z : Fraction) {ys : List Fraction} →
     List·Memᴰ (exponent1 curve z) ys → List·Memᴰ (exponent2 curve z) ys → DependsOn ys (curveValue curve z)
@@ -49,17 +50,14 @@ share-depends false n =
     depends-product (depends-constant (record { positive = omega arith })) (depends-exponential (quotient n 120) (List·Memᴰ·head refl))
 
 module _ (l : LoanInputs) (c : Chargeable l) where
-  months-in : Months (l .months)
-  months-in = record { least = c .months-least; most = c .months-most }
-
   base-depends : DependsOn (baseExponents l) (exactBase l)
   unfolding baseExponents exactBase
   base-depends =
       depends-product (depends-constant (record { positive = omega arith }))
       (depends-sum
-      (curve-depends (scaled-a (l .months) months-in (firstSet (l .term))) (ratioOf l) (List·Memᴰ·head refl) (List·Memᴰ·tail (List·Memᴰ·head refl)))
+      (curve-depends (scaled-a (l .months) (months-in c) (firstSet (l .term))) (ratioOf l) (List·Memᴰ·head refl) (List·Memᴰ·tail (List·Memᴰ·head refl)))
       (depends-product
-      (curve-depends (scaled-b (l .months) months-in (firstSet (l .term))) (ratioOf l)
+      (curve-depends (scaled-b (l .months) (months-in c) (firstSet (l .term))) (ratioOf l)
       (List·Memᴰ·tail (List·Memᴰ·tail (List·Memᴰ·head refl))) (List·Memᴰ·tail (List·Memᴰ·tail (List·Memᴰ·tail (List·Memᴰ·head refl)))))
       (depends-constant (record { positive = omega arith }))))
 
@@ -67,7 +65,7 @@ module _ (l : LoanInputs) (c : Chargeable l) where
   unfolding rateA
   rate-a-proper =
       Fractions.proper-smaller
-      (Fractions.proper-sum (scaled-c (l .months) months-in (firstSet (l .term)) .proper)
+      (Fractions.proper-sum (scaled-c (l .months) (months-in c) (firstSet (l .term)) .proper)
       (Fractions.proper-product {x = quotient 1 10} (record { positive = omega arith })
       (Fractions.proper-sum (ratio-proper (l .value) (l .over) (c .divisor-least)) (record { positive = omega arith }))))
       (record { positive = omega arith })

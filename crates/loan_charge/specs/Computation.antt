@@ -49,12 +49,24 @@ pub record Usable (c : ScaledCurve) : Type 0 where
   pub deviation1 : 8192 ≤ c .deviation1
   pub deviation2 : 8192 ≤ c .deviation2
 
--- k (C1 e1 + C2 e2) of a curve, its exponentials in units of 2^-40
-unfoldable pub weighted : ℕ → ScaledCurve → Heights → Signed
-weighted k c h = record {
-  plus = scaledProduct (k * c .weight1) (h .first) + scaledProduct (k * c .plus2) (h .second);
-  minus = scaledProduct (k * c .minus2) (h .second);
+-- C1 e1 + C2 e2 of a curve in 12ths, its exponentials and the sum in units of 2^-40
+unfoldable pub weighted : ScaledCurve → Heights → Signed
+weighted c h = record {
+  plus = c .weight1 * h .first + c .plus2 * h .second;
+  minus = c .minus2 * h .second;
 }
+
+-- the curve at z
+unfoldable pub curveUnits : ℕ → ScaledCurve → Signed
+curveUnits w c = weighted c (heights w c)
+
+-- 10^7 x + k y, for x and y in units of 2^-40, rounded down
+unfoldable pub scaledSum : (k x y : ℕ) → ℕ
+scaledSum k x y = (10 ^ 7 * x + k * y) / 2 ^ 40
+
+-- the same of both sides
+unfoldable pub curvesSum : ℕ → Signed → Signed → Signed
+curvesSum k a b = record { plus = scaledSum k (a .plus) (b .plus); minus = scaledSum k (a .minus) (b .minus) }
 
 -- m, given in 10^-17, in units of 2^-40
 unfoldable pub factor : ℕ → ℕ
@@ -70,9 +82,6 @@ limited w c = min (c * 100 * 2 ^ 27 + (w - unit)) limit
 -- a + b e of the supplement's rate, in units of 2^-40: b in tenths, the exponential e in units of 2^-40
 unfoldable pub rate : ℕ → ℕ → ℕ → ℕ → ℕ
 rate w c b e = limited w c * 8192 / 1200000 + b * e / 10
-
-abbrev pub sum : Signed → Signed → Signed
-sum x y = record { plus = x .plus + y .plus; minus = x .minus + y .minus }
 
 -- both sides times a number in units of 2^-40
 unfoldable pub times : Signed → ℕ → Signed
@@ -97,21 +106,25 @@ roundedUp x y = signed ((x .plus + y .plus + raised - (x .minus + y .minus)) / 1
 unfoldable pub roundedDown : Signed → Signed
 roundedDown x = signed ((x .plus + lowered - x .minus) / 1200000)
 
--- The base: A counts this many times and B by the balance in cents, both in 12ths.
-abbrev pub scaleA : ℕ
-scaleA = 10 ^ 7
+-- z of a loan
+abbrev pub ratioUnits : LoanInputs → ℕ
+ratioUnits l = scaledValue (l .value) (l .over)
 
-unfoldable pub baseUnits : Bool → ℕ → ℕ → ℕ → ℕ → Signed
-baseUnits first w balance months m =
-    times
-    (sum
-    (weighted scaleA (scaledA first months) (heights w (scaledA first months)))
-    (weighted balance (scaledB first months) (heights w (scaledB first months))))
-    (factor m)
+-- A and B of a loan
+unfoldable pub aUnits : LoanInputs → Signed
+aUnits l = curveUnits (ratioUnits l) (scaledA (firstSet (l .term)) (l .months))
+
+unfoldable pub bUnits : LoanInputs → Signed
+bUnits l = curveUnits (ratioUnits l) (scaledB (firstSet (l .term)) (l .months))
+
+-- The base: A counts 10^7 times and B by the balance in cents, both in 12ths.
+unfoldable pub baseUnits : LoanInputs → Signed
+baseUnits l = times (curvesSum (l .balance) (aUnits l) (bUnits l)) (factor (l .factor))
 
 -- r of the supplement
-unfoldable pub rateUnits : Bool → ℕ → ℕ → ℕ
-rateUnits first w months = rate w (scaledC first months) (tenthsB first months) (expUpper (months * 2 ^ 38 / 120))
+unfoldable pub rateUnits : LoanInputs → ℕ
+rateUnits l =
+    rate (ratioUnits l) (scaledC (firstSet (l .term)) (l .months)) (tenthsB (firstSet (l .term)) (l .months)) (expUpper (l .months * 2 ^ 38 / 120))
 
 abbrev pub none : Signed
 none = record { plus = 0; minus = 0 }
@@ -123,7 +136,4 @@ chargeFrom false base r = record { total = roundedUp base none; supplement = non
 
 -- A loan's two numbers: its base plus supplement, and its supplement, in cents.
 unfoldable pub chargeOf : LoanInputs → LoanCharge
-chargeOf l =
-    chargeFrom (l .supplement)
-    (baseUnits (firstSet (l .term)) (scaledValue (l .value) (l .over)) (l .balance) (l .months) (l .factor))
-    (rateUnits (firstSet (l .term)) (scaledValue (l .value) (l .over)) (l .months))
+chargeOf l = chargeFrom (l .supplement) (baseUnits l) (rateUnits l)

@@ -5,9 +5,8 @@ ghost use mathlib.Core.Bool.{true, false};
 ghost use Rattle.exponential.specs.Table.{entries};
 ghost use Rattle.loan_charge.specs.Tables.{exponentials};
 ghost use Rattle.fixed_point.specs.Quotient.{scaledProduct};
-ghost use Rattle.loan_charge.specs.Computation.{unit, scaledValue, distance, deviations, exponent, height, heights, Usable, weighted, factor, rate, sum, times, signed, roundedUp, roundedDown, baseUnits, rateUnits, chargeFrom, chargeOf};
 ghost use Rattle.loan_charge.specs.Charge.{Chargeable};
-ghost use Rattle.coefficients.specs.Coefficients.{Months};
+ghost use Rattle.loan_charge.specs.Computation.{unit, scaledValue, ratioUnits, distance, deviations, exponent, height, heights, Usable, weighted, scaledSum, curvesSum, curveUnits, aUnits, bUnits, factor, rate, times, signed, roundedUp, roundedDown, baseUnits, rateUnits, chargeFrom, chargeOf};
 use crate::LoanInputs;
 use coefficients::ScaledCurve;
 use coefficients::curve_a;
@@ -35,7 +34,28 @@ struct Heights {
     second: u64,
 }
 
+// 1 in the units in which z is carried, 1 / (120000 × 2^27).
 const UNIT: u64 = 16106127360000;
+
+// 1.15 in units ten times finer: the limit of a.
+const LIMIT: u64 = 185220464640000;
+
+// A counts so many times, where B counts by the balance in cents.
+const SCALE_A: u64 = 10000000;
+
+// 5^17: 10^17 is this times 2^17.
+const FIVES: u64 = 762939453125;
+
+// A cent in the units in which money is carried.
+const CENT: u64 = 1200000;
+
+// Numbers are made over an offset of so many cents.
+const OFFSET: u64 = 100000;
+
+// The offset with what covers all errors and what rounds up; and less what covers all errors.
+const CEILING_OFFSET: u64 = 120001200499;
+
+const FLOOR_OFFSET: u64 = 119999989000;
 
 // A long division carried on by five more steps, whose factors together are UNIT.
 fn refine(d: Division, q: u64) -> u64
@@ -50,14 +70,37 @@ fn refine(d: Division, q: u64) -> u64
     d5.quotient
 }
 
-// The same in two steps, where the divisor leaves room for their factors.
-fn refine_short(d: Division, q: u64) -> u64
-    requires { ⌜ (d .quotient < 16) × (d .remainder < q) × (q < 2 ^ 36) ⌝ }
-    ensures { λ r. ⌜ r ≡ unit * (d .quotient * q + d .remainder) / q ⌝ }
+// z of a divisor that leaves room for larger steps: 120000 p fits, so one more step is enough.
+fn short_value(p: u64, q: u64) -> u64
+    requires { ⌜ (0 < q) × (q ≤ p) × (q < 2 ^ 36) ⌝ }
+    ensures { λ r. ⌜ r ≡ scaledValue p q ⌝ }
 {
-    let d1 = division_step(d, q, 120000);
-    let d2 = division_step(d1, q, 134217728);
-    d2.quotient
+    if 16 * q <= p {
+        return 16 * UNIT;
+    }
+    let n = p * 120000;
+    let d = Division {
+        quotient: n / q,
+        remainder: n % q,
+    };
+    let last = division_step(d, q, 134217728);
+    last.quotient
+}
+
+// z of any divisor.
+fn long_value(p: u64, q: u64) -> u64
+    requires { ⌜ (0 < q) × (q ≤ p) × (q ≤ 2 * 10 ^ 16) ⌝ }
+    ensures { λ r. ⌜ r ≡ scaledValue p q ⌝ }
+{
+    let z = p / q;
+    if 16 <= z {
+        return 16 * UNIT;
+    }
+    let d = Division {
+        quotient: z,
+        remainder: p % q,
+    };
+    refine(d, q)
 }
 
 // z = p / q within 1 and 16, in units of 1 / UNIT.
@@ -68,18 +111,10 @@ fn scaled_value(p: u64, q: u64) -> u64
     if p < q {
         return UNIT;
     }
-    let z = p / q;
-    if 16 <= z {
-        return 16 * UNIT;
-    }
-    let d = Division {
-        quotient: z,
-        remainder: p % q,
-    };
     if q < 68719476736 {
-        refine_short(d, q)
+        short_value(p, q)
     } else {
-        refine(d, q)
+        long_value(p, q)
     }
 }
 
@@ -127,41 +162,65 @@ fn heights_of(w: u64, c: ScaledCurve, table: &Exponentials) -> Heights
     }
 }
 
-// One term of the sum below.
-fn weighted_term(k: u64, weight: u64, e: u64) -> u64
-    requires { ⌜ (k ≤ 2 * 10 ^ 8) × (weight ≤ 144240) × (e ≤ 2 ^ 41) ⌝ }
-    ensures { λ r. ⌜ r ≡ scaledProduct (k * weight) e ⌝ }
-{
-    scaled_product(k * weight, e)
-}
-
-// k (C1 e1 + C2 e2) of a curve.
-fn weighted_by(k: u64, c: ScaledCurve, h: Heights) -> Signed
-    requires { ⌜ (k ≤ 2 * 10 ^ 8) × (c .weight1 ≤ 144240) × (c .plus2 ≤ 50640) × (c .minus2 ≤ 50640) × (h .first ≤ 2 ^ 41) × (h .second ≤ 2 ^ 41) ⌝ }
-    ensures { λ r. ⌜ r ≡ weighted k c h ⌝ }
+// C1 e1 + C2 e2 of a curve.
+fn weigh(c: ScaledCurve, h: Heights) -> Signed
+    requires { ⌜ Usable c × (h .first ≤ 2 ^ 40) × (h .second ≤ 2 ^ 40) ⌝ }
+    ensures { λ r. ⌜ r ≡ weighted c h ⌝ }
 {
     Signed {
-        plus: weighted_term(k, c.weight1, h.first) + weighted_term(k, c.plus2, h.second),
-        minus: weighted_term(k, c.minus2, h.second),
+        plus: c.weight1 * h.first + c.plus2 * h.second,
+        minus: c.minus2 * h.second,
     }
 }
 
-fn sum_of(x: Signed, y: Signed) -> Signed
-    requires { ⌜ (x .plus < 2 ^ 51) × (y .plus < 2 ^ 51) × (x .minus < 2 ^ 51) × (y .minus < 2 ^ 51) ⌝ }
-    ensures { λ r. ⌜ r ≡ sum x y ⌝ }
+// A curve at z.
+fn curve_units(w: u64, c: ScaledCurve, table: &Exponentials) -> Signed
+    requires { ⌜ (w ≤ 16 * unit) × Usable c × (now table ≡ entries) ⌝ }
+    ensures { λ r. ⌜ r ≡ curveUnits w c ⌝ }
 {
-    Signed {
-        plus: x.plus + y.plus,
-        minus: x.minus + y.minus,
-    }
+    weigh(c, heights_of(w, c, table))
 }
 
-// k times the curve at z.
-fn curve_units(k: u64, w: u64, c: ScaledCurve, table: &Exponentials) -> Signed
-    requires { ⌜ (k ≤ 2 * 10 ^ 8) × (w ≤ 16 * unit) × Usable c × (now table ≡ entries) ⌝ }
-    ensures { λ r. ⌜ r ≡ weighted k c (heights w c) ⌝ }
+fn a_units(l: LoanInputs, w: u64, table: &Exponentials) -> Signed
+    requires { ⌜ Chargeable l × (w ≡ ratioUnits l) × (now table ≡ entries) ⌝ }
+    ensures { λ r. ⌜ r ≡ aUnits l ⌝ }
 {
-    weighted_by(k, c, heights_of(w, c, table))
+    curve_units(w, curve_a(first_set(l.term), l.months), table)
+}
+
+fn b_units(l: LoanInputs, w: u64, table: &Exponentials) -> Signed
+    requires { ⌜ Chargeable l × (w ≡ ratioUnits l) × (now table ≡ entries) ⌝ }
+    ensures { λ r. ⌜ r ≡ bUnits l ⌝ }
+{
+    curve_units(w, curve_b(first_set(l.term), l.months), table)
+}
+
+// 10^7 x + k y, for x and y in units of 2^-40: of two parts each, so that no product passes 64 bits.
+fn scaled_sum(k: u64, x: u64, y: u64) -> u64
+    requires { ⌜ (k ≤ 2 * 10 ^ 8) × (x ≤ 2 ^ 58) × (y ≤ 2 ^ 58) ⌝ }
+    ensures { λ r. ⌜ r ≡ scaledSum k x y ⌝ }
+{
+    let high = SCALE_A * (x / 1073741824) + k * (y / 1073741824);
+    let low = SCALE_A * (x % 1073741824) + k * (y % 1073741824);
+    (high + low / 1073741824) / 1024
+}
+
+// The same, where x and y are mostly 0.
+fn rare_sum(k: u64, x: u64, y: u64) -> u64
+    requires { ⌜ (k ≤ 2 * 10 ^ 8) × (x ≤ 2 ^ 58) × (y ≤ 2 ^ 58) ⌝ }
+    ensures { λ r. ⌜ r ≡ scaledSum k x y ⌝ }
+{
+    if x + y == 0 { 0 } else { scaled_sum(k, x, y) }
+}
+
+fn curves_sum(k: u64, a: Signed, b: Signed) -> Signed
+    requires { ⌜ (k ≤ 2 * 10 ^ 8) × (a .plus ≤ 2 ^ 58) × (a .minus ≤ 2 ^ 58) × (b .plus ≤ 2 ^ 58) × (b .minus ≤ 2 ^ 58) ⌝ }
+    ensures { λ r. ⌜ r ≡ curvesSum k a b ⌝ }
+{
+    Signed {
+        plus: scaled_sum(k, a.plus, b.plus),
+        minus: rare_sum(k, a.minus, b.minus),
+    }
 }
 
 // m, given in 10^-17, in units of 2^-40: by 2^23 / 5^17, which is the same and fits.
@@ -169,7 +228,7 @@ fn factor_of(m: u64) -> u64
     requires { ⌜ m ≤ 3 * 10 ^ 17 ⌝ }
     ensures { λ r. ⌜ r ≡ factor m ⌝ }
 {
-    m / 762939453125 * 8388608 + m % 762939453125 * 8388608 / 762939453125
+    m / FIVES * 8388608 + m % FIVES * 8388608 / FIVES
 }
 
 fn smaller(x: u64, limit: u64) -> u64
@@ -183,8 +242,16 @@ fn rate_of(w: u64, c: u64, b: u64, e: u64) -> u64
     requires { ⌜ (unit ≤ w) × (w ≤ 16 * unit) × (c ≤ 2280) × (b ≤ 3) × (e ≤ 2 ^ 41) ⌝ }
     ensures { λ r. ⌜ r ≡ rate w c b e ⌝ }
 {
-    let a = smaller(c * 13421772800 + (w - UNIT), 185220464640000);
+    let a = smaller(c * 13421772800 + (w - UNIT), LIMIT);
     a * 8192 / 1200000 + b * e / 10
+}
+
+// A product whose first factor is mostly 0.
+fn rare_product(a: u64, b: u64) -> u64
+    requires { ⌜ (a < 2 ^ 51) × (b < 2 ^ 51) ⌝ }
+    ensures { λ r. ⌜ r ≡ scaledProduct a b ⌝ }
+{
+    if a == 0 { 0 } else { scaled_product(a, b) }
 }
 
 fn times_rate(x: Signed, f: u64) -> Signed
@@ -193,7 +260,7 @@ fn times_rate(x: Signed, f: u64) -> Signed
 {
     Signed {
         plus: scaled_product(x.plus, f),
-        minus: scaled_product(x.minus, f),
+        minus: rare_product(x.minus, f),
     }
 }
 
@@ -201,14 +268,14 @@ fn times_rate(x: Signed, f: u64) -> Signed
 fn without_offset(t: u64) -> Signed
     ensures { λ r. ⌜ r ≡ signed t ⌝ }
 {
-    if t < 100000 {
+    if t < OFFSET {
         Signed {
             plus: 0,
-            minus: 100000 - t,
+            minus: OFFSET - t,
         }
     } else {
         Signed {
-            plus: t - 100000,
+            plus: t - OFFSET,
             minus: 0,
         }
     }
@@ -219,7 +286,7 @@ fn rounded_up(x: Signed, y: Signed) -> Signed
     requires { ⌜ (x .plus < 2 ^ 51) × (y .plus < 2 ^ 51) × (x .minus + y .minus ≤ 120000000000) ⌝ }
     ensures { λ r. ⌜ r ≡ roundedUp x y ⌝ }
 {
-    without_offset((x.plus + y.plus + 120001200499 - (x.minus + y.minus)) / 1200000)
+    without_offset((x.plus + y.plus + CEILING_OFFSET - (x.minus + y.minus)) / CENT)
 }
 
 // An amount in cents, rounded down.
@@ -227,33 +294,27 @@ fn rounded_down(x: Signed) -> Signed
     requires { ⌜ (x .plus < 2 ^ 51) × (x .minus ≤ 119999989000) ⌝ }
     ensures { λ r. ⌜ r ≡ roundedDown x ⌝ }
 {
-    without_offset((x.plus + 119999989000 - x.minus) / 1200000)
+    without_offset((x.plus + FLOOR_OFFSET - x.minus) / CENT)
 }
 
-// The base: A counts 10^7 times and B by the balance in cents, both in 12ths.
-fn base_units(
-    first: bool,
-    w: u64,
-    balance: u64,
-    months: u64,
-    m: u64,
-    table: &Exponentials,
-) -> Signed
-    requires { ⌜ (w ≤ 16 * unit) × (balance ≤ 2 * 10 ^ 8) × Months months × (m ≤ 3 * 10 ^ 17) × (now table ≡ entries) ⌝ }
-    ensures { λ r. ⌜ r ≡ baseUnits first w balance months m ⌝ }
+// The base.
+fn base_units(l: LoanInputs, w: u64, table: &Exponentials) -> Signed
+    requires { ⌜ Chargeable l × (w ≡ ratioUnits l) × (now table ≡ entries) ⌝ }
+    ensures { λ r. ⌜ r ≡ baseUnits l ⌝ }
 {
-    let a = curve_units(10000000, w, curve_a(first, months), table);
-    let b = curve_units(balance, w, curve_b(first, months), table);
-    times_rate(sum_of(a, b), factor_of(m))
+    let a = a_units(l, w, table);
+    let b = b_units(l, w, table);
+    times_rate(curves_sum(l.balance, a, b), factor_of(l.factor))
 }
 
 // r of the supplement.
-fn rate_units(first: bool, w: u64, months: u64, table: &Exponentials) -> u64
-    requires { ⌜ (unit ≤ w) × (w ≤ 16 * unit) × Months months × (now table ≡ entries) ⌝ }
-    ensures { λ r. ⌜ r ≡ rateUnits first w months ⌝ }
+fn rate_units(l: LoanInputs, w: u64, table: &Exponentials) -> u64
+    requires { ⌜ Chargeable l × (w ≡ ratioUnits l) × (now table ≡ entries) ⌝ }
+    ensures { λ r. ⌜ r ≡ rateUnits l ⌝ }
 {
-    let e = exponential::exp_upper(months * 274877906944 / 120, table);
-    rate_of(w, rate_c(first, months), rate_b(first, months), e)
+    let first = first_set(l.term);
+    let e = exponential::exp_upper(l.months * 274877906944 / 120, table);
+    rate_of(w, rate_c(first, l.months), rate_b(first, l.months), e)
 }
 
 fn with_supplement(base: Signed, r: u64) -> LoanCharge
@@ -290,10 +351,9 @@ pub fn charge(l: LoanInputs, exps: &Exponentials) -> LoanCharge
     ensures { λ r. ⌜ r ≡ chargeOf l ⌝ }
 {
     let w = scaled_value(l.value, l.over);
-    let first = first_set(l.term);
-    let base = base_units(first, w, l.balance, l.months, l.factor, exps);
+    let base = base_units(l, w, exps);
     if l.supplement {
-        with_supplement(base, rate_units(first, w, l.months, exps))
+        with_supplement(base, rate_units(l, w, exps))
     } else {
         without_supplement(base)
     }
