@@ -9,7 +9,7 @@ use Rattle.fixed_point.specs.Quotient.{scaledProduct}
 use Rattle.loan_charge.specs.declared.charge.Heights.{Heights}
 use Rattle.fixed_point.specs.declared.Signed.{Signed}
 use Rattle.coefficients.specs.declared.ScaledCurve.{ScaledCurve}
-use Rattle.loan_charge.specs.Computation.{unit, limit, limited, raised, lowered, weighted, scaledSum, curvesSum, factor, rate, times, signed, roundedUp, roundedDown}
+use Rattle.loan_charge.specs.Computation.{unit, limit, limited, totalPad, supplementPad, ceilingOffset, floorOffset, weighted, scaledSum, curvesSum, factor, rate, times, signed, roundedUp, roundedDown}
 use Rattle.loan_charge.proofs.Near.{Near, Floored, near-add, near-mul, near-equal, near-scale, near-widen, near-multiple, near-floor}
 use Rattle.loan_charge.proofs.ScaledValue.{Held}
 
@@ -234,25 +234,26 @@ times-most {x} {f} P M k h hf = record {
   minus = omega (arith, mul-le-mul (h .minus) hf);
 }
 
--- From the enclosed sides to whole cents: over an offset of 100000 cents, in units of 1 / 1200000 cent.
-module _ (P M t np nm d rp rm αp βp αm βm : ℕ) (offset : rp + 100000 ≡ t + rm) (p : Near P np d αp βp) (m : Near M nm d αm βm) where
-  pub up-low : P + 120000000500 ≤ 1200000 * t + M → βp + αm ≤ 500 → np + rm * (1200000 * d) ≤ nm + rp * (1200000 * d)
+-- From the enclosed sides to whole cents: over an offset of 100000 cents, in units of 1 / 1200000 cent. The pad covers the errors on one side,
+-- and with those on the other it stays below a twentieth of a cent.
+module _ (P M t np nm d rp rm αp βp αm βm pad : ℕ) (offset : rp + 100000 ≡ t + rm) (p : Near P np d αp βp) (m : Near M nm d αm βm) where
+  up-low : P + 120000000000 + pad ≤ 1200000 * t + M → βp + αm ≤ pad → np + rm * (1200000 * d) ≤ nm + rp * (1200000 * d)
   up-low h a =
       omega
       (arith, mul-le-mul-right d h, mul-le-mul-right d a, p .high, m .low, ap (λ (x : ℕ). x * d) offset)
 
-  pub up-high : 1200000 * t + M ≤ P + 120001200499 → αp + βm ≤ 59500 → 0 < d →
+  up-high : 1200000 * t + M ≤ P + 120000000000 + pad + 1199999 → αp + βm + pad ≤ 60000 → 0 < d →
       rp * (1200000 * d) + nm < np + rm * (1200000 * d) + 1260000 * d
   up-high h a pos =
       omega
       (arith, mul-le-mul-right d h, mul-le-mul-right d a, p .low, m .high, ap (λ (x : ℕ). x * d) offset)
 
-  pub down-high : 1200000 * t + M ≤ P + 119999989000 → αp + βm ≤ 11000 → nm + rp * (1200000 * d) ≤ np + rm * (1200000 * d)
+  down-high : 1200000 * t + M + pad ≤ P + 120000000000 → αp + βm ≤ pad → nm + rp * (1200000 * d) ≤ np + rm * (1200000 * d)
   down-high h a =
       omega
       (arith, mul-le-mul-right d h, mul-le-mul-right d a, p .low, m .high, ap (λ (x : ℕ). x * d) offset)
 
-  pub down-low : P + 119999989000 < 1200000 * t + M + 1200000 → βp + αm ≤ 48000 → 0 < d →
+  down-low : P + 120000000000 < 1200000 * t + M + 1200000 + pad → βp + αm + pad ≤ 60000 → 0 < d →
       np + rm * (1200000 * d) < nm + rp * (1200000 * d) + 1260000 * d
   down-low h a pos =
       omega
@@ -269,25 +270,25 @@ pub record Below (r : Signed) (np nm d : ℕ) : Type 0 where
   pub low : np + r .minus * (1200000 * d) < nm + r .plus * (1200000 * d) + 1260000 * d
 
 pub rounded-above : {np nm d αp βp αm βm : ℕ} (x y : Signed) → Both (sum x y) np nm d αp βp αm βm → x .minus + y .minus ≤ 120000000000 →
-    βp + αm ≤ 500 → αp + βm ≤ 59500 → 0 < d → Above (roundedUp x y) np nm d
+    βp + αm ≤ totalPad → αp + βm + totalPad ≤ 60000 → 0 < d → Above (roundedUp x y) np nm d
 unfolding roundedUp signed
 rounded-above {np} {nm} {d} {αp} {βp} {αm} {βm} x y b h a a' pos =
     let P : ℕ = x .plus + y .plus in
     let M : ℕ = x .minus + y .minus in
-    let t : ℕ = (P + raised - M) / 1200000 in
+    let t : ℕ = (P + ceilingOffset - M) / 1200000 in
     record {
-      low = up-low P M t np nm d (t - 100000) (100000 - t) αp βp αm βm (omega arith) (b .plus-near) (b .minus-near) (omega arith) a;
-      high = up-high P M t np nm d (t - 100000) (100000 - t) αp βp αm βm (omega arith) (b .plus-near) (b .minus-near) (omega arith) a' pos;
+      low = up-low P M t np nm d (t - 100000) (100000 - t) αp βp αm βm totalPad (omega arith) (b .plus-near) (b .minus-near) (omega arith) a;
+      high = up-high P M t np nm d (t - 100000) (100000 - t) αp βp αm βm totalPad (omega arith) (b .plus-near) (b .minus-near) (omega arith) a' pos;
     }
 
-pub rounded-below : {np nm d αp βp αm βm : ℕ} (x : Signed) → Both x np nm d αp βp αm βm → x .minus ≤ 119999989000 →
-    αp + βm ≤ 11000 → βp + αm ≤ 48000 → 0 < d → Below (roundedDown x) np nm d
+pub rounded-below : {np nm d αp βp αm βm : ℕ} (x : Signed) → Both x np nm d αp βp αm βm → x .minus ≤ floorOffset →
+    αp + βm ≤ supplementPad → βp + αm + supplementPad ≤ 60000 → 0 < d → Below (roundedDown x) np nm d
 unfolding roundedDown signed
 rounded-below {np} {nm} {d} {αp} {βp} {αm} {βm} x b h a a' pos =
     let P : ℕ = x .plus in
     let M : ℕ = x .minus in
-    let t : ℕ = (P + lowered - M) / 1200000 in
+    let t : ℕ = (P + floorOffset - M) / 1200000 in
     record {
-      high = down-high P M t np nm d (t - 100000) (100000 - t) αp βp αm βm (omega arith) (b .plus-near) (b .minus-near) (omega arith) a;
-      low = down-low P M t np nm d (t - 100000) (100000 - t) αp βp αm βm (omega arith) (b .plus-near) (b .minus-near) (omega arith) a' pos;
+      high = down-high P M t np nm d (t - 100000) (100000 - t) αp βp αm βm supplementPad (omega arith) (b .plus-near) (b .minus-near) (omega arith) a;
+      low = down-low P M t np nm d (t - 100000) (100000 - t) αp βp αm βm supplementPad (omega arith) (b .plus-near) (b .minus-near) (omega arith) a' pos;
     }

@@ -91,20 +91,27 @@ times x f = record { plus = scaledProduct (x .plus) f; minus = scaledProduct (x 
 unfoldable pub signed : ℕ → Signed
 signed t = record { plus = t - 100000; minus = 100000 - t }
 
--- What is added before rounding: the offset, with what covers all errors, on the side of the rounding.
-abbrev pub raised : ℕ
-raised = 100000 * 1200000 + 500 + 1199999
+-- What covers all errors, in these units: of the total, which must not fall below, and of the supplement, which must not rise above.
+abbrev pub totalPad : ℕ
+totalPad = 500
 
-abbrev pub lowered : ℕ
-lowered = 100000 * 1200000 - 11000
+abbrev pub supplementPad : ℕ
+supplementPad = 11000
+
+-- What is added before rounding: the offset, with the pad on the side of the rounding.
+abbrev pub ceilingOffset : ℕ
+ceilingOffset = 100000 * 1200000 + totalPad + 1199999
+
+abbrev pub floorOffset : ℕ
+floorOffset = 100000 * 1200000 - supplementPad
 
 -- two amounts together in cents, rounded up
 unfoldable pub roundedUp : Signed → Signed → Signed
-roundedUp x y = signed ((x .plus + y .plus + raised - (x .minus + y .minus)) / 1200000)
+roundedUp x y = signed ((x .plus + y .plus + ceilingOffset - (x .minus + y .minus)) / 1200000)
 
 -- an amount in cents, rounded down
 unfoldable pub roundedDown : Signed → Signed
-roundedDown x = signed ((x .plus + lowered - x .minus) / 1200000)
+roundedDown x = signed ((x .plus + floorOffset - x .minus) / 1200000)
 
 -- z of a loan
 abbrev pub ratioUnits : LoanInputs → ℕ
