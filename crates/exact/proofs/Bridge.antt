@@ -5,7 +5,7 @@ use Prim.Native.Nat.{ℕ, zero, suc, _+_, _-_, _*_, _^_, _≤_, _<_}
 use native.Mathlib.Nat.{mul-pos, pow-suc, pow-zero, mul-le-mul-left, sub-add-cancel, le-of-mul-le-mul-left, sub-zero}
 use native.Mathlib.Omega.{arith}
 use Rattle.exact.specs.Fraction.{Fraction, Proper, quotient, whole, _⊕_, _⊗_, _≈_}
-use Rattle.exact.specs.Exponential.{factorial, power, term, partialSum, sumWithTail, bracketLow, bracketHigh, Allowed, InBracket}
+use Rattle.exact.specs.Exponential.{factorial, power, seriesTerm, partialSum, sumWithTail, bracketLow, bracketHigh, Allowed, InBracket}
 use Rattle.exact.proofs.Fractions
 use Rattle.exact.proofs.Fractions.{Nonnegative, Positive}
 use Rattle.exact.proofs.Sums.{den, num, tailed, den-pos, num-pos, growing, tail}
@@ -58,10 +58,10 @@ module _ {y : Fraction} {a d : ℕ} (h : At y a d) where
       (Fractions.same-product (Fractions.proper-quotient (a ^ n) (pow-pos n)) (h .proper) (power-is n) (h .same))
       (record { crossed = omega arith }))
 
-  term-proper : (n : ℕ) → Proper (term y n)
+  term-proper : (n : ℕ) → Proper (seriesTerm y n)
   term-proper n = Fractions.proper-product (power-proper n) (Fractions.proper-quotient 1 (factorial-pos n))
 
-  term-is : (n : ℕ) → term y n ≈ quotient (a ^ n) (den d n)
+  term-is : (n : ℕ) → seriesTerm y n ≈ quotient (a ^ n) (den d n)
   term-is n =
       Fractions.same-trans
       (Fractions.proper-product (Fractions.proper-quotient (a ^ n) (pow-pos n)) (Fractions.proper-quotient 1 (factorial-pos n)))
@@ -87,7 +87,7 @@ module _ {y : Fraction} {a d : ℕ} (h : At y a d) where
   tail-sum-proper n = Fractions.proper-sum (sum-proper n) (Fractions.proper-product (record { positive = omega arith }) (term-proper (suc n)))
 
   -- with the tail k times
-  tail-sum-at : (n k : ℕ) → partialSum n y ⊕ whole k ⊗ term y (suc n) ≈ quotient (num a d n) (den d n) ⊕ whole k ⊗ quotient (a ^ suc n) (den d (suc n))
+  tail-sum-at : (n k : ℕ) → partialSum n y ⊕ whole k ⊗ seriesTerm y (suc n) ≈ quotient (num a d n) (den d n) ⊕ whole k ⊗ quotient (a ^ suc n) (den d (suc n))
   tail-sum-at n k = Fractions.same-sum (sum-is n) (Fractions.same-product (record { positive = omega arith }) (term-proper (suc n)) (Fractions.same-refl (whole k)) (term-is (suc n)))
 
   tail-sum-is : (n : ℕ) → sumWithTail n y ≈ quotient (tailed a d n) (den d (suc n))

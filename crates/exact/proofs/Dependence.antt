@@ -4,7 +4,7 @@ use mathlib.Core.Path.{_≡_}
 use mathlib.Core.List.{List, _++_, List·Memᴰ, Memᴰ·append-left, Memᴰ·append-right}
 use Prim.Native.Nat.{_+_, _*_, _<_}
 use Rattle.exact.specs.Fraction.{Fraction, Proper, negated, _⊕_, _⊗_, Equals, larger}
-use Rattle.exact.specs.Quantity.{Assignment, Agree, DependsOn}
+use Rattle.exact.specs.Quantity.{Assignment, DependsOn}
 use Rattle.exact.proofs.Fractions
 
 -- by computation, where x and y are numerals

@@ -4,7 +4,7 @@ use mathlib.Core.Path.{_≡_, refl, sym, _∙_, ap, ap₂}
 use Prim.Native.Nat.{ℕ, _+_, _*_, _≤_, _<_}
 use native.Mathlib.Decide.{decLe}
 use mathlib.Core.Logic.{⊎-elim, _⊎_, inl, inr}
-use native.Mathlib.Nat.{le-dest, le-of-lt, lt-of-not-le, max-eq-left, max-eq-right, min-eq-left, min-eq-right, sub-add-cancel, mul-le-mul-left, mul-le-mul-right, mul-lt-mul-of-pos-left, mul-pos, le-of-mul-le-mul-left, lt-of-mul-lt-mul-left, eq-of-mul-eq-mul-left, le-of-eq, le-antisymm, add-le-add, add-lt-add-of-lt-of-le}
+use native.Mathlib.Nat.{le-dest, le-of-lt, lt-of-not-le, max-eq-left, max-eq-right, min-eq-left, min-eq-right, sub-add-cancel, mul-le-mul-left, mul-le-mul-right, mul-lt-mul-of-pos-left, mul-pos, le-of-mul-le-mul-left, lt-of-mul-lt-mul-left, eq-of-mul-eq-mul-left, le-of-eq, le-antisymm, add-le-add}
 use native.Mathlib.Omega.{arith}
 use Rattle.exact.specs.Fraction.{Fraction, Proper, quotient, negated, _⊕_, _⊗_, _≼_, _≺_, _≈_, larger, smaller, reciprocal}
 
@@ -79,18 +79,6 @@ same-of-multiple {x} {y} k p m o =
 pub product-sum : (x y f : Fraction) → (x ⊕ y) ⊗ f ≈ x ⊗ f ⊕ y ⊗ f
 product-sum x y f = same-of-multiple (f .over) (omega arith) (omega arith) (omega arith)
 
-pub product-assoc : (x y z : Fraction) → x ⊗ y ⊗ z ≈ x ⊗ (y ⊗ z)
-product-assoc x y z = same-of-parts (omega arith) (omega arith) (omega arith)
-
-pub sum-comm : (x y : Fraction) → x ⊕ y ≈ y ⊕ x
-sum-comm x y = same-of-parts (omega arith) (omega arith) (omega arith)
-
-pub sum-assoc : (x y z : Fraction) → x ⊕ y ⊕ z ≈ x ⊕ (y ⊕ z)
-sum-assoc x y z = same-of-parts (omega arith) (omega arith) (omega arith)
-
-pub product-comm : (x y : Fraction) → x ⊗ y ≈ y ⊗ x
-product-comm x y = record { crossed = omega arith }
-
 pub same-product : {x x′ y y′ : Fraction} → Proper x′ → Proper y → x ≈ x′ → y ≈ y′ → x ⊗ y ≈ x′ ⊗ y′
 same-product {x} {x′} {y} {y′} p q h k =
     same-trans (proper-product p q) (same-product-left y h)
@@ -132,12 +120,6 @@ pub at-most-sum : {x x′ y y′ : Fraction} → x ≼ x′ → y ≼ y′ → x
 at-most-sum {x} {x′} {y} {y′} h k =
     record {
       crossed = rw (sum-left x x′ y y′, sum-right x x′ y y′) (add-le-add (mul-le-mul-left (y .over * y′ .over) (h .crossed)) (mul-le-mul-left (x .over * x′ .over) (k .crossed)));
-    }
-
-pub below-sum : {x x′ y y′ : Fraction} → Proper y → Proper y′ → x ≺ x′ → y ≼ y′ → x ⊕ y ≺ x′ ⊕ y′
-below-sum {x} {x′} {y} {y′} p q h k =
-    record {
-      crossed = rw (sum-left x x′ y y′, sum-right x x′ y y′) (add-lt-add-of-lt-of-le (mul-lt-mul-of-pos-left (h .crossed) (mul-pos (p .positive) (q .positive))) (mul-le-mul-left (x .over * x′ .over) (k .crossed)));
     }
 
 pub at-most-negated : {x y : Fraction} → x ≼ y → negated y ≼ negated x
@@ -237,8 +219,3 @@ positive-same {x} {y} p q h n =
 
 pub nonnegative-sum : {x y : Fraction} → Nonnegative x → Nonnegative y → Nonnegative (x ⊕ y)
 nonnegative-sum {x} {y} h k = record { above = add-le-add (mul-le-mul-right (y .over) (h .above)) (mul-le-mul-right (x .over) (k .above)) }
-
-pub nonnegative-product : {x y : Fraction} → Nonnegative x → Nonnegative y → Nonnegative (x ⊗ y)
-nonnegative-product {x} {y} h k =
-    let (d, e) = le-dest (k .above) in
-    record { above = omega (arith, mul-le-mul-left d (h .above), ap (λ (t : ℕ). x .plus * t) e, ap (λ (t : ℕ). x .minus * t) e) }

@@ -32,30 +32,30 @@ pub record AllowedAll (n : ℕ) (ys : List Fraction) : Type 0 where
   pub each : (y : Fraction) → List·Memᴰ y ys → Allowed n y
 
 -- Each exponential has a value in its bracket of order n, and equal exponents have equal values.
-pub record Good (n : ℕ) (ys : List Fraction) (x : Assignment) : Type 0 where
+pub record InBrackets (n : ℕ) (ys : List Fraction) (x : Assignment) : Type 0 where
   pub inside : (y : Fraction) → List·Memᴰ y ys → InBracket n y (x y)
   pub alike : (y z : Fraction) → List·Memᴰ y ys → List·Memᴰ z ys → y ≈ z → x y ≈ x z
 
--- At every order allowed for all its exponents the quantity takes a value of which `Stands` is true.
-pub record Takes (q : Quantity) (Stands : Fraction → Type 0) : Type 0 where
+-- At every order allowed for all its exponents the quantity takes a value of which `Holds` is true.
+pub record AtEveryOrder (q : Quantity) (Holds : Fraction → Type 0) : Type 0 where
   pub at-order : (n : ℕ) → AllowedAll n (q .exponents) →
-      (x : Assignment) × Good n (q .exponents) x × Proper (q .value x) × Stands (q .value x)
+      (x : Assignment) × InBrackets n (q .exponents) x × Proper (q .value x) × Holds (q .value x)
 
 -- the exact quantity is at most the answer
 abbrev pub AtMost : Quantity → Fraction → Type 0
-AtMost q answer = Takes q (λ v. v ≼ answer)
+AtMost q answer = AtEveryOrder q (λ v. v ≼ answer)
 
 -- the answer exceeds it by less than g
 abbrev pub ExceedsByLess : Quantity → Fraction → Fraction → Type 0
-ExceedsByLess q g answer = Takes q (λ v. answer ≺ v ⊕ g)
+ExceedsByLess q g answer = AtEveryOrder q (λ v. answer ≺ v ⊕ g)
 
 -- the answer is never above it
 abbrev pub NeverAbove : Quantity → Fraction → Type 0
-NeverAbove q answer = Takes q (λ v. answer ≼ v)
+NeverAbove q answer = AtEveryOrder q (λ v. answer ≼ v)
 
 -- the answer is less than g below it
 abbrev pub LessBelow : Quantity → Fraction → Fraction → Type 0
-LessBelow q g answer = Takes q (λ v. v ⊖ g ≺ answer)
+LessBelow q g answer = AtEveryOrder q (λ v. v ⊖ g ≺ answer)
 
 -- All orders from some order on are allowed, so that none of the above holds for want of an order.
 pub record SomeAllowed (ys : List Fraction) : Type 0 where

@@ -9,7 +9,7 @@ use native.Mathlib.Omega.{arith}
 use Rattle.exact.proofs.Enclosure.{Above, Below, above-product, above-exponent, above-value, below-product, below-exponent, below-value}
 use Rattle.exponential.specs.Exponential.{halfSquare, thirdPart, decrease, lowered}
 use Rattle.exponential.proofs.Rule.{Least}
-use Rattle.exponential.proofs.Series.{Rounded, Alternating, Small, alternating, alternating-zero, above-remainder, below-remainder}
+use Rattle.exponential.proofs.Series.{Rounded, Alternating, SmallRemainder, alternating, alternating-zero, above-remainder, below-remainder}
 use Rattle.exponential.proofs.Steps.{product-most, half-square-most, decrease-most}
 
 module _ (r : ℕ) (h : r < 2 ^ 32) where
@@ -42,7 +42,7 @@ module _ (r : ℕ) (h : r < 2 ^ 32) where
             rw e (subst⁻¹ (λ (d : ℕ). Alternating (2 ^ 38) 0 d) (omega (arith, decrease-most 0 (omega arith))) (alternating-zero (2 ^ 38)))
       ]
 
-  small : Small (2 ^ 38) r
+  small : SmallRemainder (2 ^ 38) r
   small =
       let one : r ≤ 2 ^ 32 = le-of-lt h in
       let two : r * r ≤ 2 ^ 32 * 2 ^ 32 = mul-le-mul one one in

@@ -10,14 +10,14 @@ use native.Mathlib.Omega.{arith}
 use Rattle.exact.proofs.Enclosure.{Above, Below, above-from, above-exponent, below-product, below-exponent, below-value, below-tail}
 use Rattle.exact.proofs.Sums.{num, den, tailed}
 use Rattle.exponential.specs.Exponential.{lowered, decrease, expUpper}
-use Rattle.exponential.specs.Table.{entries, entry}
+use Rattle.exponential.specs.Table.{exponentials, entry}
 use Rattle.exponential.proofs.Between.{above-between, below-between}
 use Rattle.exponential.proofs.Entries.{rule, entry-bounded}
 use Rattle.exponential.proofs.Steps.{nothing-lowered, beyond, between}
 
 -- The last entry.
 last : entry 1536 ≡ 42
-unfolding entries
+unfolding exponentials
 last = refl
 
 -- From 24 on the value is 42.
@@ -75,7 +75,7 @@ within-16 y h =
     (below-between (y % 2 ^ 32) (omega arith) (entry (y / 2 ^ 32)) (y / 2 ^ 32) (rule .at (y / 2 ^ 32) k) (entry-bounded (y / 2 ^ 32) k)))
 
 -- u in units of 2^-40 is at or above exp(-a/d), 1/E(m) for all m from some order on, by at most 42 units
-pub record Near (u a d : ℕ) : Type 0 where
+pub record NearExponential (u a d : ℕ) : Type 0 where
   pub from : ℕ
   pub above : (m : ℕ) → from ≤ m → 2 ^ 40 * den d m ≤ u * num a d m
   pub below : (m : ℕ) → u * num a d m ≤ 2 ^ 40 * den d m + 42 * num a d m
@@ -104,7 +104,7 @@ pub above-at : (y a d : ℕ) → y * d ≤ 2 ^ 38 * a → Above (expUpper y) (2 
 above-at y a d low = above-exponent (lit≤ tt) (omega arith) (at-or-above y)
 
 -- The exponent a/d may lie up to 5 units above y, or anywhere above it where y is 24 or more.
-pub near : (y a d : ℕ) → 0 < d → y * d ≤ 2 ^ 38 * a → (2 ^ 38 * a ≤ (y + 5) * d) ⊎ (1536 * 2 ^ 32 ≤ y) → Near (expUpper y) a d
+pub near : (y a d : ℕ) → 0 < d → y * d ≤ 2 ^ 38 * a → (2 ^ 38 * a ≤ (y + 5) * d) ⊎ (1536 * 2 ^ 32 ≤ y) → NearExponential (expUpper y) a d
 near y a d pos low high =
     let u : ℕ = expUpper y in
     let above : Above u (2 ^ 40) a d = above-at y a d low in

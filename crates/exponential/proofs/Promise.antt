@@ -9,7 +9,7 @@ use Rattle.exact.specs.Fraction.{Fraction, Proper, quotient, whole, _⊕_, _⊗
 use Rattle.exact.specs.Exponential.{bracketHigh, Allowed, InBracket}
 use Rattle.exact.proofs.Bridge.{At, high-is, high-proper, low-is, low-proper, allowed-of}
 use Rattle.exact.proofs.Fractions
-use Rattle.exact.proofs.Quantities.{Exponent, Exponents, takes, mapped, some-allowed}
+use Rattle.exact.proofs.Quantities.{Exponent, Exponents, at-every-order, mapped, some-allowed}
 use Rattle.exact.proofs.Sums.{num, den, tailed, num-pos}
 use Rattle.exact.proofs.Enclosure.{Above, Below, above-from}
 use Rattle.exponential.specs.Table.{entry}
@@ -53,7 +53,7 @@ reaches s t g a d n h v b below outside =
 least-of : (t g a d : ℕ) → 0 < d → Least t g a d → LeastNotBelow (multiple g (quotient a d)) t
 least-of t g a d h l =
     record {
-      not-below = takes (multiple g (quotient a d)) (λ v. v ≼ whole t) (exponents a d h)
+      not-below = at-every-order (multiple g (quotient a d)) (λ v. v ≼ whole t) (exponents a d h)
           (record {
             from = l .above .order;
             holds = λ m le. (
@@ -87,7 +87,7 @@ near-of a d u w pos above below =
 
 encloses-of : (y w : ℕ) → NearFrom (expUpper y) (exponentOf y) w → Encloses y w
 encloses-of y w n =
-    takes (multiple (2 ^ 40) (exponentOf y)) (λ v. (v ≼ whole (expUpper y)) × (whole (expUpper y) ≼ v ⊕ whole w)) (exponents y (2 ^ 38) (lit< tt))
+    at-every-order (multiple (2 ^ 40) (exponentOf y)) (λ v. (v ≼ whole (expUpper y)) × (whole (expUpper y) ≼ v ⊕ whole w)) (exponents y (2 ^ 38) (lit< tt))
     (mapped (λ m h. (Fractions.proper-product (record { positive = omega arith }) (h .0), (h .1, h .2))) n)
 
 -- where the exponent lies, on natural numbers

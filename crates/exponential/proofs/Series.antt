@@ -143,13 +143,13 @@ tail-below : (p v M Q K q R g t : ℕ) → 0 < p → p * v * M + g * M ≤ p * q
 tail-below p v M Q K q R g t pos h i j = le-of-mul-le-mul-left {k = p} (omega (arith, mul-le-mul-left Q h, i, j)) pos
 
 -- r is so small against β that the terms beyond the fourth vanish in the rounding.
-pub record Small (β r : ℕ) : Type 0 where
+pub record SmallRemainder (β r : ℕ) : Type 0 where
   pub first : 64 * r ≤ β
   pub fifth : r * r * r * r * r ≤ 256 * (β * β * β * β)
   pub sixth : r * r * r * r * r * r ≤ 4 * (β * β * β * β * β)
   pub eighth : r * r * r * r * r * r * r * r ≤ β * β * β * β * β * β * β
 
-module _ (β r d v : ℕ) (pos : 0 < β) (sum : v + 14 + d ≡ 4 * β) (h : Alternating β r d) (small : Small β r) where
+module _ (β r d v : ℕ) (pos : 0 < β) (sum : v + 14 + d ≡ 4 * β) (h : Alternating β r d) (small : SmallRemainder β r) where
   margin : 6 * (β * β * β) * v + odd β r + 70 * (β * β * β) ≤ even β r
   margin =
       omega (

@@ -4,7 +4,7 @@ use mathlib.Core.Path.{_≡_}
 use mathlib.Core.Logic.{_⊎_}
 use mathlib.Core.List.{[], _∷_}
 use Rattle.exact.specs.Fraction.{Fraction, Proper, quotient, whole, _⊕_, _⊗_, _≼_}
-use Rattle.exact.specs.Quantity.{Quantity, AtMost, Takes, SomeAllowed, Eventually}
+use Rattle.exact.specs.Quantity.{Quantity, AtMost, AtEveryOrder, SomeAllowed, Eventually}
 use Rattle.exponential.specs.Table.{entry}
 use Rattle.exponential.specs.Exponential.{expUpper}
 
@@ -27,7 +27,7 @@ exponentOf y = quotient y (2 ^ 38)
 
 -- at every order allowed, by one value in the bracket, the answer is not below 2^40 × exp(-y) and at most w above it
 abbrev pub Encloses : ℕ → ℕ → Type 0
-Encloses y w = Takes (multiple (2 ^ 40) (exponentOf y)) (λ v. (v ≼ whole (expUpper y)) × (whole (expUpper y) ≼ v ⊕ whole w))
+Encloses y w = AtEveryOrder (multiple (2 ^ 40) (exponentOf y)) (λ v. (v ≼ whole (expUpper y)) × (whole (expUpper y) ≼ v ⊕ whole w))
 
 -- u is at or above 2^40 × exp(-η) and at most w above it: for all m from some m on, with exp(-η) taken as 1 / E(m).
 -- Unlike the statements about brackets this goes into sums and products, so the layers above rest on it.

@@ -2,7 +2,7 @@
 ghost use mathlib.Core.Path.{_≡_};
 ghost use Prim.Native.Nat.{_*_, _-_, _<_, _≤_, _^_, min};
 ghost use Rattle.exponential.specs.Exponential.{halfSquare, thirdPart, decrease, lowered, expUpper};
-ghost use Rattle.exponential.specs.Table.{entries};
+ghost use Rattle.exponential.specs.Table.{exponentials};
 
 mod values;
 
@@ -13,7 +13,7 @@ pub type Exponentials = [u64; ENTRIES];
 
 // The table. It is made once and lent from then on: a constant array is stored whole at each use.
 pub fn table() -> Exponentials
-    ensures { λ r. ⌜ r ≡ entries ⌝ }
+    ensures { λ r. ⌜ r ≡ exponentials ⌝ }
 {
     values::TABLE
 }
@@ -70,7 +70,7 @@ fn within(y: u64) -> u64
 
 // At or above exp(-y), in units of 2^-40; y in units of 2^-38.
 pub fn exp_upper(y: u64, table: &Exponentials) -> u64
-    requires { ⌜ now table ≡ entries ⌝ }
+    requires { ⌜ now table ≡ exponentials ⌝ }
     ensures { λ r. ⌜ r ≡ expUpper y ⌝ }
 {
     let x = within(y);

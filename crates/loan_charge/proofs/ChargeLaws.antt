@@ -9,21 +9,19 @@ use native.Mathlib.Omega.{arith}
 use native.Mathlib.Nat.{mul-pos, mul-le-mul}
 use Rattle.exact.specs.Fraction.{Fraction, Proper, quotient, whole, _⊕_, _⊖_, _⊗_, _≼_, _≺_, _≈_}
 use Rattle.exact.specs.Exponential.{bracketHigh}
-use Rattle.exact.specs.Quantity.{Assignment, Quantity, Eventually}
+use Rattle.exact.specs.Quantity.{Assignment, Eventually}
 use Rattle.exact.proofs.Fractions
 use Rattle.exact.proofs.Bridge.{At, high-is, high-proper}
-use Rattle.exact.proofs.Quantities.{Exponent, Exponents, takes, mapped, some-allowed, no-exponents, more-exponents, appended-exponents}
-use Rattle.exact.proofs.Within.{Within}
+use Rattle.exact.proofs.Quantities.{Exponent, Exponents, at-every-order, mapped, some-allowed, no-exponents, more-exponents, appended-exponents}
 use Rattle.exact.proofs.Sums.{num, den, num-pos}
 use Rattle.exponential.specs.Exponential.{expUpper}
 use Rattle.exponential.proofs.Laws as Exponential
 use Rattle.exact.specs.Choice.{pick}
-use Rattle.coefficients.specs.Coefficients.{Curve, firstSet, curveA, curveB}
-use Rattle.coefficients.specs.Coefficients.{Months}
+use Rattle.coefficients.specs.Coefficients.{Curve, firstSet}
 use Rattle.coefficients.specs.Integers.{scaledA, scaledB, scaledC, tenthsB}
 use Rattle.loan_charge.specs.Charge.{valueRatio, ratioOf, curveAOf, curveBOf, gaussExponent, exponent1, exponent2, exactBase, rateA, exactRate, exactSupplement, exactTotal, baseExponents, rateExponents, allExponents, totalExponents, supplementExponents, totalQuantity, supplementQuantity, Chargeable}
 use Rattle.loan_charge.specs.Promise.{signedCents, tolerance, NearExact, Promised, InRange}
-use Rattle.loan_charge.specs.Computation.{scaledValue, ratioUnits, signed, height, heights, curveUnits, curvesSum, aUnits, bUnits, factor, rate, times, roundedUp, roundedDown, none, baseUnits, rateUnits, chargeFrom, chargeOf}
+use Rattle.loan_charge.specs.Computation.{scaledValue, ratioUnits, signed, height, heights, curveUnits, curvesSum, aUnits, bUnits, factor, rate, times, roundedUp, roundedDown, zeroAmount, baseUnits, rateUnits, chargeFrom, chargeOf}
 use Rattle.coefficients.specs.declared.ScaledCurve.{ScaledCurve}
 use Rattle.loan_charge.specs.declared.LoanInputs.{LoanInputs}
 use Rattle.loan_charge.specs.declared.charge.LoanCharge.{LoanCharge}
@@ -33,7 +31,7 @@ use Rattle.coefficients.proofs.CoefficientLaws.{scaled-a, scaled-b, scaled-c, t
 use Rattle.loan_charge.proofs.Dependence.{total-determined, supplement-determined}
 use Rattle.loan_charge.proofs.ExactValues.{ValueAt, cents, ratio-is, ratio-proper, exponent-at, curvePlus, curveMinus, curve-proper, curve-is, base-proper, base-is, rate-proper, rate-is, product-is, sum-is}
 use Rattle.loan_charge.proofs.Gauss.{gauss-near, months-near, value-at, exponentNum, exponentDen}
-use Rattle.loan_charge.proofs.Money.{Value, Both, Above, Below, AtMost, both-add, both-times, weighted-near, curves-near, factor-near, rateNum, rateDen, rate-near, rate-most, rounded-above, rounded-below}
+use Rattle.loan_charge.proofs.Money.{Value, Both, CentsAbove, CentsBelow, SignedAtMost, both-add, both-times, weighted-near, curves-near, factor-near, rateNum, rateDen, rate-near, rate-most, rounded-above, rounded-below}
 use Rattle.loan_charge.proofs.Near.{Near}
 use Rattle.loan_charge.proofs.ScaledValue.{held, value-alike}
 use Rattle.loan_charge.proofs.Sizes.{months-in, base-most, sum-most, rate-units-most, supplement-most}
@@ -44,10 +42,10 @@ module _ {v : Fraction} {np nm d : ℕ} (pv : Proper v) (pos : 0 < d) (same : v 
   cents-proper : Proper (cents np nm d)
   cents-proper = record { positive = omega arith }
 
-  above-exact : Above r np nm d → v ≼ signedCents r
+  above-exact : CentsAbove r np nm d → v ≼ signedCents r
   above-exact a = Fractions.at-most-trans cents-proper (Fractions.at-most-of-same same) (record { crossed = omega (arith, a .low) })
 
-  above-near : Above r np nm d → signedCents r ≺ v ⊕ tolerance
+  above-near : CentsAbove r np nm d → signedCents r ≺ v ⊕ tolerance
   above-near a =
       Fractions.below-at-most
       (Fractions.proper-sum cents-proper (record { positive = omega arith }))
@@ -55,10 +53,10 @@ module _ {v : Fraction} {np nm d : ℕ} (pv : Proper v) (pos : 0 < d) (same : v 
       (record { crossed = omega (arith, a .high) })
       (Fractions.at-most-sum (Fractions.at-most-of-same (Fractions.same-sym same)) (Fractions.at-most-refl tolerance))
 
-  below-exact : Below r np nm d → signedCents r ≼ v
+  below-exact : CentsBelow r np nm d → signedCents r ≼ v
   below-exact b = Fractions.at-most-trans cents-proper (record { crossed = omega (arith, b .high) }) (Fractions.at-most-of-same (Fractions.same-sym same))
 
-  below-near : Below r np nm d → v ⊖ tolerance ≺ signedCents r
+  below-near : CentsBelow r np nm d → v ⊖ tolerance ≺ signedCents r
   below-near b =
       Fractions.at-most-below
       (Fractions.proper-sum pv (record { positive = omega arith }))
@@ -75,7 +73,7 @@ record BaseNear (x : Signed) (v : Fraction) : Type 0 where
   proper : Proper v
   same : v ≈ cents plus minus over
   both : Both x plus minus over 4554 41 3 5
-  most : AtMost 119205000000000 27150000000 x
+  most : SignedAtMost 119205000000000 27150000000 x
 
 record RateNear (r : ℕ) (v : Fraction) : Type 0 where
   above : ℕ
@@ -87,7 +85,7 @@ record RateNear (r : ℕ) (v : Fraction) : Type 0 where
   most : above ≤ 2 * over
   bound : r ≤ 2 * 2 ^ 40
 
-none-both : Both none 0 0 1 0 0 0 0
+none-both : Both zeroAmount 0 0 1 0 0 0 0
 none-both = record {
   plus-near = record { low = omega arith; high = omega arith };
   minus-near = record { low = omega arith; high = omega arith };
@@ -105,12 +103,12 @@ module _ {x : Signed} {v : Fraction} (b : BaseNear x v) where
       (Fractions.proper-sum {x = cents (b .plus) (b .minus) (b .over)} {y = cents 0 0 1} (record { positive = omega (arith, b .positive) }) (record { positive = omega arith }))
       (Fractions.same-sum (b .same) (record { crossed = omega arith }))
       (sum-is (b .plus) (b .minus) (b .over) 0 0 1) in
-      let above : Above (roundedUp x none) (b .plus * 1 + 0 * b .over) (b .minus * 1 + 0 * b .over) (b .over * 1) =
-      rounded-above x none (both-add (b .both) none-both) (omega (arith, b .most .minus)) (omega arith) (omega arith) pos in
+      let above : CentsAbove (roundedUp x zeroAmount) (b .plus * 1 + 0 * b .over) (b .minus * 1 + 0 * b .over) (b .over * 1) =
+      rounded-above x zeroAmount (both-add (b .both) none-both) (omega (arith, b .most .minus)) (omega arith) (omega arith) pos in
       record {
         total-proper = proper;
-        total-at-least = above-exact proper pos same (roundedUp x none) above;
-        total-near = above-near proper pos same (roundedUp x none) above;
+        total-at-least = above-exact proper pos same (roundedUp x zeroAmount) above;
+        total-near = above-near proper pos same (roundedUp x zeroAmount) above;
         supplement-proper = record { positive = omega arith };
         supplement-at-most = record { crossed = omega arith };
         supplement-near = record { crossed = omega arith };
@@ -158,13 +156,13 @@ module _ {x : Signed} {v : Fraction} (b : BaseNear x v) where
         (Fractions.same-sum (b .same) supplement-same)
         (sum-is (b .plus) (b .minus) (b .over) sp sm so)
 
-    total-above : Above (roundedUp x (times x r)) (b .plus * so + sp * b .over) (b .minus * so + sm * b .over) (b .over * so)
+    total-above : CentsAbove (roundedUp x (times x r)) (b .plus * so + sp * b .over) (b .minus * so + sm * b .over) (b .over * so)
     total-above =
         rounded-above x (times x r) (both-add (b .both) supplement-both)
         (omega (arith, b .most .minus, supplement-most (b .most) (a .bound) .minus))
         (omega arith) (omega arith) (mul-pos (b .positive) so-pos)
 
-    supplement-below : Below (roundedDown (times x r)) sp sm so
+    supplement-below : CentsBelow (roundedDown (times x r)) sp sm so
     supplement-below =
         rounded-below (times x r) supplement-both
         (omega (arith, supplement-most (b .most) (a .bound) .minus))
@@ -187,7 +185,7 @@ record Enclosed (u : ℕ) (y : Fraction) : Type 0 where
   a : ℕ
   d : ℕ
   at : At y a d
-  near : Exponential.Near u a d
+  near : Exponential.NearExponential u a d
 
 -- At one order: u, and the exact value v = N / D.
 record Valued (u : ℕ) (v : Fraction) : Type 0 where
@@ -417,17 +415,17 @@ module _ (l : LoanInputs) (c : Chargeable l) where
         let r : LoanCharge = chargeOf l in
         record {
           total-determined = total-determined l c;
-          total-at-least = takes (totalQuantity l) (λ v. v ≼ signedCents (r .total)) total-exponents (mapped (λ k n. (n .total-proper, n .total-at-least)) law);
+          total-at-least = at-every-order (totalQuantity l) (λ v. v ≼ signedCents (r .total)) total-exponents (mapped (λ k n. (n .total-proper, n .total-at-least)) law);
           total-near =
-              takes (totalQuantity l) (λ v. signedCents (r .total) ≺ v ⊕ g) total-exponents
+              at-every-order (totalQuantity l) (λ v. signedCents (r .total) ≺ v ⊕ g) total-exponents
               (mapped (λ k n. (n .total-proper, wider-total (n .total-proper) (n .total-near))) law);
           total-orders = some-allowed (totalExponents l) total-exponents;
           supplement-determined = supplement-determined l c;
           supplement-at-most =
-              takes (supplementQuantity l) (λ v. signedCents (r .supplement) ≼ v) supplement-exponents
+              at-every-order (supplementQuantity l) (λ v. signedCents (r .supplement) ≼ v) supplement-exponents
               (mapped (λ k n. (n .supplement-proper, n .supplement-at-most)) law);
           supplement-near =
-              takes (supplementQuantity l) (λ v. v ⊖ g ≺ signedCents (r .supplement)) supplement-exponents
+              at-every-order (supplementQuantity l) (λ v. v ⊖ g ≺ signedCents (r .supplement)) supplement-exponents
               (mapped (λ k n. (n .supplement-proper, wider-supplement (n .supplement-proper) (n .supplement-near))) law);
           supplement-orders = some-allowed (supplementExponents l) supplement-exponents;
         }
@@ -442,13 +440,13 @@ down-range : (x : Signed) → x .plus ≤ 238410000000000 → InRange (roundedDo
 unfolding roundedDown signed
 down-range x h = record { most = omega arith; least = omega arith; one-sided = omega arith }
 
-charge-small : {x : Signed} {r : ℕ} (t : Bool) → AtMost 119205000000000 27150000000 x → r ≤ 2 * 2 ^ 40 →
+charge-small : {x : Signed} {r : ℕ} (t : Bool) → SignedAtMost 119205000000000 27150000000 x → r ≤ 2 * 2 ^ 40 →
     InRange (chargeFrom t x r .total) × InRange (chargeFrom t x r .supplement)
 unfolding chargeFrom
 charge-small {x} {r} true h k =
     let s = supplement-most h k in
     (up-range x (times x r) (h .plus) (s .plus), down-range (times x r) (s .plus))
-charge-small {x} false h k = (up-range x none (h .plus) (omega arith), record { most = omega arith; least = omega arith; one-sided = omega arith })
+charge-small {x} false h k = (up-range x zeroAmount (h .plus) (omega arith), record { most = omega arith; least = omega arith; one-sided = omega arith })
 
 pub charge-range : (l : LoanInputs) → Chargeable l → InRange (chargeOf l .total) × InRange (chargeOf l .supplement)
 unfolding chargeOf
@@ -456,7 +454,7 @@ charge-range l c =
     charge-small (l .supplement) (base-most l c) (rate-units-most l c)
 
 -- Where no supplement applies its number is 0.
-pub no-supplement : (l : LoanInputs) → l .supplement ≡ false → chargeOf l .supplement ≡ none
+pub no-supplement : (l : LoanInputs) → l .supplement ≡ false → chargeOf l .supplement ≡ zeroAmount
 unfolding chargeOf chargeFrom
 no-supplement l e = rw e refl
 
@@ -477,23 +475,3 @@ charge-alike l value over pos pos' e =
     (times (curvesSum (l .balance) (curveUnits w (scaledA (firstSet (l .term)) (l .months))) (curveUnits w (scaledB (firstSet (l .term)) (l .months)))) (factor (l .factor)))
     (rate w (scaledC (firstSet (l .term)) (l .months)) (tenthsB (firstSet (l .term)) (l .months)) (expUpper (l .months * 2 ^ 38 / 120))))
     (value-alike (l .value) (l .over) value over pos pos' e)
-
--- The same as distances, for sums over many loans.
-
-pub total-within : {r : LoanCharge} {total supplement : Fraction} → NearExact r total supplement → Within total (signedCents (r .total)) tolerance
-total-within n = record {
-  lower = n .total-proper;
-  upper = record { positive = omega arith };
-  width = record { positive = omega arith };
-  at-most = n .total-at-least;
-  near = record { crossed = omega (arith, n .total-near .crossed) };
-}
-
-pub supplement-within : {r : LoanCharge} {total supplement : Fraction} → NearExact r total supplement → Within (signedCents (r .supplement)) supplement tolerance
-supplement-within n = record {
-  lower = record { positive = omega arith };
-  upper = n .supplement-proper;
-  width = record { positive = omega arith };
-  at-most = n .supplement-at-most;
-  near = record { crossed = omega (arith, n .supplement-near .crossed) };
-}

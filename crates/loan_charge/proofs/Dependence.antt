@@ -12,12 +12,11 @@ use Rattle.exact.specs.Quantity.{DependsOn, Determined}
 use Rattle.exact.proofs.Fractions
 use Rattle.exact.proofs.Dependence.{depends-constant, depends-exponential, depends-sum, depends-product, depends-left, depends-right}
 use Rattle.coefficients.specs.Coefficients.{Curve, firstSet, rateB}
-use Rattle.coefficients.specs.Coefficients.{Months}
 use Rattle.coefficients.specs.declared.ScaledCurve.{ScaledCurve}
 use Rattle.coefficients.specs.Promise.{ScaledCurveOf}
 use Rattle.coefficients.proofs.CoefficientLaws.{scaled-a, scaled-b, scaled-c}
 use Rattle.loan_charge.specs.declared.LoanInputs.{LoanInputs}
-use Rattle.loan_charge.specs.Charge.{ratioOf, curveAOf, curveBOf, exponent1, exponent2, curveValue, exactBase, rateA, exactRate, exactSupplement, exactTotal, baseExponents, rateExponents, allExponents, totalExponents, supplementExponents, totalQuantity, supplementQuantity, Chargeable}
+use Rattle.loan_charge.specs.Charge.{ratioOf, exponent1, exponent2, curveValue, exactBase, rateA, exactRate, exactSupplement, exactTotal, baseExponents, rateExponents, allExponents, totalExponents, supplementExponents, totalQuantity, supplementQuantity, Chargeable}
 use Rattle.loan_charge.proofs.ExactValues.{ratio-proper}
 use Rattle.loan_charge.proofs.Sizes.{months-in}
 

@@ -61,14 +61,14 @@ both-add p q = record {
 }
 
 -- What the product by f, at most B, adds to the allowances: kp and lp on the side of at most P, km and lm on that of at most M.
-pub record Allowed (P M α β kp lp km lm : ℕ) : Type 0 where
+pub record ProductAllowance (P M α β kp lp km lm : ℕ) : Type 0 where
   pub plus-low : P * α ≤ kp * 2 ^ 40
   pub plus-high : P * β ≤ lp * 2 ^ 40
   pub minus-low : M * α ≤ km * 2 ^ 40
   pub minus-high : M * β ≤ lm * 2 ^ 40
 
 pub both-times : {x : Signed} {np nm d αp βp αm βm f fn fd α β : ℕ} (P M B kp lp km lm : ℕ) → Both x np nm d αp βp αm βm →
-    Near f (2 ^ 40 * fn) fd α β → x .plus ≤ P → x .minus ≤ M → fn ≤ B * fd → Allowed P M α β kp lp km lm →
+    Near f (2 ^ 40 * fn) fd α β → x .plus ≤ P → x .minus ≤ M → fn ≤ B * fd → ProductAllowance P M α β kp lp km lm →
     Both (times x f) (np * fn) (nm * fn) (d * fd) (B * αp + kp) (1 + B * βp + lp) (B * αm + km) (1 + B * βm + lm)
 unfolding times
 both-times {x} {f = f} P M B kp lp km lm b n hp hm hf a = record {
@@ -199,16 +199,16 @@ pub record Weights (most-weight1 most-plus2 most-minus2 : ℕ) (c : ScaledCurve)
   pub minus2 : c .minus2 ≤ most-minus2
 
 -- both exponentials are at most 1
-pub record Small (h : Heights) : Type 0 where
+pub record AtMostOne (h : Heights) : Type 0 where
   pub first : h .first ≤ 2 ^ 40
   pub second : h .second ≤ 2 ^ 40
 
-pub record AtMost (P M : ℕ) (x : Signed) : Type 0 where
+pub record SignedAtMost (P M : ℕ) (x : Signed) : Type 0 where
   pub plus : x .plus ≤ P
   pub minus : x .minus ≤ M
 
-pub weighted-most : {c : ScaledCurve} {h : Heights} (w₁ w₂ w₃ : ℕ) → Weights w₁ w₂ w₃ c → Small h →
-    AtMost (w₁ * 2 ^ 40 + w₂ * 2 ^ 40) (w₃ * 2 ^ 40) (weighted c h)
+pub weighted-most : {c : ScaledCurve} {h : Heights} (w₁ w₂ w₃ : ℕ) → Weights w₁ w₂ w₃ c → AtMostOne h →
+    SignedAtMost (w₁ * 2 ^ 40 + w₂ * 2 ^ 40) (w₃ * 2 ^ 40) (weighted c h)
 unfolding weighted
 weighted-most w₁ w₂ w₃ w s = record {
   plus = add-le-add (mul-le-mul (w .weight1) (s .first)) (mul-le-mul (w .plus2) (s .second));
@@ -219,15 +219,15 @@ scaled-sum-most : (k x y K X Y n : ℕ) → k ≤ K → x ≤ X → y ≤ Y → 
 unfolding scaledSum
 scaled-sum-most k x y K X Y n hk hx hy h = omega (arith, mul-le-mul hk hy)
 
-pub curves-most : {a b : Signed} (k K P M P' M' p m : ℕ) → k ≤ K → AtMost P M a → AtMost P' M' b →
-    10 ^ 7 * P + K * P' < (p + 1) * 2 ^ 40 → 10 ^ 7 * M + K * M' < (m + 1) * 2 ^ 40 → AtMost p m (curvesSum k a b)
+pub curves-most : {a b : Signed} (k K P M P' M' p m : ℕ) → k ≤ K → SignedAtMost P M a → SignedAtMost P' M' b →
+    10 ^ 7 * P + K * P' < (p + 1) * 2 ^ 40 → 10 ^ 7 * M + K * M' < (m + 1) * 2 ^ 40 → SignedAtMost p m (curvesSum k a b)
 unfolding curvesSum
 curves-most {a} {b} k K P M P' M' p m hk x y hp hm = record {
   plus = scaled-sum-most k (a .plus) (b .plus) K P P' p hk (x .plus) (y .plus) hp;
   minus = scaled-sum-most k (a .minus) (b .minus) K M M' m hk (x .minus) (y .minus) hm;
 }
 
-pub times-most : {x : Signed} {f : ℕ} (P M k : ℕ) → AtMost P M x → f ≤ k * 2 ^ 40 → AtMost (P * k) (M * k) (times x f)
+pub times-most : {x : Signed} {f : ℕ} (P M k : ℕ) → SignedAtMost P M x → f ≤ k * 2 ^ 40 → SignedAtMost (P * k) (M * k) (times x f)
 unfolding times
 times-most {x} {f} P M k h hf = record {
   plus = omega (arith, mul-le-mul (h .plus) hf);
@@ -260,17 +260,17 @@ module _ (P M t np nm d rp rm αp βp αm βm pad : ℕ) (offset : rp + 100000 �
       (arith, mul-le-mul-right d h, mul-le-mul-right d a, p .high, m .low, ap (λ (x : ℕ). x * d) offset)
 
 -- the exact amount (np - nm) / (1200000 d) is at most r, and r exceeds it by less than 1.05
-pub record Above (r : Signed) (np nm d : ℕ) : Type 0 where
+pub record CentsAbove (r : Signed) (np nm d : ℕ) : Type 0 where
   pub low : np + r .minus * (1200000 * d) ≤ nm + r .plus * (1200000 * d)
   pub high : r .plus * (1200000 * d) + nm < np + r .minus * (1200000 * d) + 1260000 * d
 
 -- r is at most the exact amount, and less than 1.05 below it
-pub record Below (r : Signed) (np nm d : ℕ) : Type 0 where
+pub record CentsBelow (r : Signed) (np nm d : ℕ) : Type 0 where
   pub high : nm + r .plus * (1200000 * d) ≤ np + r .minus * (1200000 * d)
   pub low : np + r .minus * (1200000 * d) < nm + r .plus * (1200000 * d) + 1260000 * d
 
 pub rounded-above : {np nm d αp βp αm βm : ℕ} (x y : Signed) → Both (sum x y) np nm d αp βp αm βm → x .minus + y .minus ≤ 120000000000 →
-    βp + αm ≤ totalPad → αp + βm + totalPad ≤ 60000 → 0 < d → Above (roundedUp x y) np nm d
+    βp + αm ≤ totalPad → αp + βm + totalPad ≤ 60000 → 0 < d → CentsAbove (roundedUp x y) np nm d
 unfolding roundedUp signed
 rounded-above {np} {nm} {d} {αp} {βp} {αm} {βm} x y b h a a' pos =
     let P : ℕ = x .plus + y .plus in
@@ -282,7 +282,7 @@ rounded-above {np} {nm} {d} {αp} {βp} {αm} {βm} x y b h a a' pos =
     }
 
 pub rounded-below : {np nm d αp βp αm βm : ℕ} (x : Signed) → Both x np nm d αp βp αm βm → x .minus ≤ floorOffset →
-    αp + βm ≤ supplementPad → βp + αm + supplementPad ≤ 60000 → 0 < d → Below (roundedDown x) np nm d
+    αp + βm ≤ supplementPad → βp + αm + supplementPad ≤ 60000 → 0 < d → CentsBelow (roundedDown x) np nm d
 unfolding roundedDown signed
 rounded-below {np} {nm} {d} {αp} {βp} {αm} {βm} x b h a a' pos =
     let P : ℕ = x .plus in

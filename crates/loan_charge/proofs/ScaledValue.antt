@@ -4,7 +4,7 @@ use mathlib.Core.Path.{_≡_, sym, _∙_, ap, ap₂, subst⁻¹}
 use Prim.Native.Nat.{ℕ, _+_, _*_, _/_, _%_, _^_, _≤_, _<_, min, max, zero-le}
 use native.Mathlib.Decide.{decLe}
 use native.Mathlib.Omega.{arith}
-use native.Mathlib.Nat.{mul-le-mul-left, mul-le-mul-right, le-of-mul-le-mul-right, le-trans, lt-of-le-of-lt, le-of-lt, mul-div-cancel, max-eq-left, max-eq-right, min-eq-left, min-eq-right, div-eq-of-lt-le, le-div-iff-mul-le, div-lt-iff-lt-mul, div-add-mod', div-mul-le-self, lt-div-mul-add, mod-lt, le-max-right, mul-div-mul-right, mul-comm, min-le-right, lt-of-not-le}
+use native.Mathlib.Nat.{mul-le-mul-left, mul-le-mul-right, le-of-mul-le-mul-right, le-trans, lt-of-le-of-lt, le-of-lt, max-eq-left, max-eq-right, min-eq-left, min-eq-right, div-eq-of-lt-le, le-div-iff-mul-le, div-lt-iff-lt-mul, div-add-mod', div-mul-le-self, lt-div-mul-add, mod-lt, le-max-right, mul-div-mul-right, mul-comm, min-le-right, lt-of-not-le}
 use Rattle.fixed_point.specs.Quotient.{divisionStep}
 use Rattle.fixed_point.specs.declared.Division.{Division}
 use Rattle.fixed_point.proofs.Laws.{step-whole, step-remainder}

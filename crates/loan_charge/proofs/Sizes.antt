@@ -7,8 +7,7 @@ use native.Mathlib.Omega.{arith}
 use native.Mathlib.Nat.{mul-le-mul, le-trans}
 use Rattle.exponential.specs.Exponential.{expUpper}
 use Rattle.exponential.proofs.Laws as Exponential
-use Rattle.coefficients.specs.Coefficients.{Curve, firstSet}
-use Rattle.coefficients.specs.Coefficients.{Months}
+use Rattle.coefficients.specs.Coefficients.{Curve, firstSet, Months}
 use Rattle.coefficients.specs.Integers.{scaledA, scaledB, scaledC, tenthsB}
 use Rattle.loan_charge.specs.Computation.{exponent, height, heights, Usable, curveUnits, curvesSum, factor, rate, times, ratioUnits, aUnits, bUnits, baseUnits, rateUnits}
 use Rattle.loan_charge.specs.Charge.{Chargeable}
@@ -19,7 +18,7 @@ use Rattle.loan_charge.specs.declared.charge.LoanCharge.{LoanCharge}
 use Rattle.fixed_point.specs.declared.Signed.{Signed}
 use Rattle.coefficients.specs.Promise.{ScaledCurveOf}
 use Rattle.coefficients.proofs.CoefficientLaws.{scaled-a, scaled-b, tenths-b}
-use Rattle.loan_charge.proofs.Money.{Weights, Small, AtMost, weighted-most, curves-most, times-most}
+use Rattle.loan_charge.proofs.Money.{Weights, AtMostOne, SignedAtMost, weighted-most, curves-most, times-most}
 
 -- Equal values have equal parts.
 
@@ -52,7 +51,7 @@ usable-a first {n} h = usable (scaled-a n h first) (omega arith) (omega arith) (
 pub usable-b : (first : Bool) {n : ℕ} → Months n → Usable (scaledB first n)
 usable-b first {n} h = usable (scaled-b n h first) (omega arith) (omega arith) (omega arith)
 
-pub heights-small : (w : ℕ) (c : ScaledCurve) → Small (heights w c)
+pub heights-small : (w : ℕ) (c : ScaledCurve) → AtMostOne (heights w c)
 unfolding heights height
 heights-small w c = record {
   first = Exponential.bounded (exponent w (c .mean1) (c .deviation1));
@@ -60,7 +59,7 @@ heights-small w c = record {
 }
 
 pub curve-most : {w p m : ℕ} {curve : Curve} {s : ScaledCurve} → ScaledCurveOf w p m curve s → (z : ℕ) →
-    AtMost (w * 2 ^ 40 + p * 2 ^ 40) (m * 2 ^ 40) (curveUnits z s)
+    SignedAtMost (w * 2 ^ 40 + p * 2 ^ 40) (m * 2 ^ 40) (curveUnits z s)
 unfolding curveUnits
 curve-most {w} {p} {m} {s = s} h z = weighted-most w p m (weights h) (heights-small z s)
 
@@ -72,21 +71,21 @@ unfolding factor
 factor-most m h = omega arith
 
 module _ (l : LoanInputs) (c : Chargeable l) where
-  pub a-most : AtMost (75816 * 2 ^ 40) (905 * 2 ^ 40) (aUnits l)
+  pub a-most : SignedAtMost (75816 * 2 ^ 40) (905 * 2 ^ 40) (aUnits l)
   unfolding aUnits
   a-most = let h = curve-most (scaled-a (l .months) (months-in c) (firstSet (l .term))) (ratioUnits l) in record { plus = omega (arith, h .plus); minus = h .minus }
 
-  pub b-most : AtMost (194880 * 2 ^ 40) 0 (bUnits l)
+  pub b-most : SignedAtMost (194880 * 2 ^ 40) 0 (bUnits l)
   unfolding bUnits
   b-most = let h = curve-most (scaled-b (l .months) (months-in c) (firstSet (l .term))) (ratioUnits l) in record { plus = omega (arith, h .plus); minus = omega (arith, h .minus) }
 
   -- A and B together
-  pub sum-most : AtMost 39735000000000 9050000000 (curvesSum (l .balance) (aUnits l) (bUnits l))
+  pub sum-most : SignedAtMost 39735000000000 9050000000 (curvesSum (l .balance) (aUnits l) (bUnits l))
   sum-most =
       curves-most (l .balance) (2 * 10 ^ 8) (75816 * 2 ^ 40) (905 * 2 ^ 40) (194880 * 2 ^ 40) 0 39735000000000 9050000000 (c .balance-most) a-most b-most
       (omega arith) (omega arith)
 
-  pub base-most : AtMost 119205000000000 27150000000 (baseUnits l)
+  pub base-most : SignedAtMost 119205000000000 27150000000 (baseUnits l)
   unfolding baseUnits
   base-most = times-most 39735000000000 9050000000 3 sum-most (factor-most (l .factor) (c .factor-most))
 
@@ -100,6 +99,6 @@ rate-units-most l c =
     rate-bound (ratioUnits l) (scaledC (firstSet (l .term)) (l .months)) (tenthsB (firstSet (l .term)) (l .months)) (expUpper (l .months * 2 ^ 38 / 120))
     (tenths-b (l .months) (months-in c) (firstSet (l .term)) .most) (Exponential.bounded (l .months * 2 ^ 38 / 120))
 
-pub supplement-most : {x : Signed} {r : ℕ} → AtMost 119205000000000 27150000000 x → r ≤ 2 * 2 ^ 40 →
-    AtMost 238410000000000 54300000000 (times x r)
+pub supplement-most : {x : Signed} {r : ℕ} → SignedAtMost 119205000000000 27150000000 x → r ≤ 2 * 2 ^ 40 →
+    SignedAtMost 238410000000000 54300000000 (times x r)
 supplement-most h k = times-most 119205000000000 27150000000 2 h k

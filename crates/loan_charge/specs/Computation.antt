@@ -133,13 +133,13 @@ unfoldable pub rateUnits : LoanInputs → ℕ
 rateUnits l =
     rate (ratioUnits l) (scaledC (firstSet (l .term)) (l .months)) (tenthsB (firstSet (l .term)) (l .months)) (expUpper (l .months * 2 ^ 38 / 120))
 
-abbrev pub none : Signed
-none = record { plus = 0; minus = 0 }
+abbrev pub zeroAmount : Signed
+zeroAmount = record { plus = 0; minus = 0 }
 
 -- both numbers from the base and r, with a supplement or without
 unfoldable pub chargeFrom : Bool → Signed → ℕ → LoanCharge
 chargeFrom true base r = record { total = roundedUp base (times base r); supplement = roundedDown (times base r) }
-chargeFrom false base r = record { total = roundedUp base none; supplement = none }
+chargeFrom false base r = record { total = roundedUp base zeroAmount; supplement = zeroAmount }
 
 -- A loan's two numbers: its base plus supplement, and its supplement, in cents.
 unfoldable pub chargeOf : LoanInputs → LoanCharge

@@ -2,7 +2,6 @@
 ghost use mathlib.Core.Path.{_≡_};
 ghost use Prim.Native.Nat.{_+_, _*_, _/_, _^_, _<_, _≤_, min};
 ghost use mathlib.Core.Bool.{true, false};
-ghost use Rattle.exponential.specs.Table.{entries};
 ghost use Rattle.loan_charge.specs.Tables.{exponentials};
 ghost use Rattle.fixed_point.specs.Quotient.{scaledProduct};
 ghost use Rattle.loan_charge.specs.Charge.{Chargeable};
@@ -145,20 +144,20 @@ fn exponent_of(w: u64, mean: u64, deviation: u64) -> u64
 }
 
 // exp(-(z - mean)² / (2 deviation²)), never below it.
-fn height_of(w: u64, mean: u64, deviation: u64, table: &Exponentials) -> u64
-    requires { ⌜ (w ≤ 16 * unit) × (mean < 2 ^ 20) × (8192 ≤ deviation) × (now table ≡ entries) ⌝ }
+fn height_of(w: u64, mean: u64, deviation: u64, exps: &Exponentials) -> u64
+    requires { ⌜ (w ≤ 16 * unit) × (mean < 2 ^ 20) × (8192 ≤ deviation) × (now exps ≡ exponentials) ⌝ }
     ensures { λ r. ⌜ r ≡ height w mean deviation ⌝ }
 {
-    exponential::exp_upper(exponent_of(w, mean, deviation), table)
+    exponential::exp_upper(exponent_of(w, mean, deviation), exps)
 }
 
-fn heights_of(w: u64, c: ScaledCurve, table: &Exponentials) -> Heights
-    requires { ⌜ (w ≤ 16 * unit) × Usable c × (now table ≡ entries) ⌝ }
+fn heights_of(w: u64, c: ScaledCurve, exps: &Exponentials) -> Heights
+    requires { ⌜ (w ≤ 16 * unit) × Usable c × (now exps ≡ exponentials) ⌝ }
     ensures { λ r. ⌜ r ≡ heights w c ⌝ }
 {
     Heights {
-        first: height_of(w, c.mean1, c.deviation1, table),
-        second: height_of(w, c.mean2, c.deviation2, table),
+        first: height_of(w, c.mean1, c.deviation1, exps),
+        second: height_of(w, c.mean2, c.deviation2, exps),
     }
 }
 
@@ -174,25 +173,25 @@ fn weigh(c: ScaledCurve, h: Heights) -> Signed
 }
 
 // A curve at z.
-fn curve_units(w: u64, c: ScaledCurve, table: &Exponentials) -> Signed
-    requires { ⌜ (w ≤ 16 * unit) × Usable c × (now table ≡ entries) ⌝ }
+fn curve_units(w: u64, c: ScaledCurve, exps: &Exponentials) -> Signed
+    requires { ⌜ (w ≤ 16 * unit) × Usable c × (now exps ≡ exponentials) ⌝ }
     ensures { λ r. ⌜ r ≡ curveUnits w c ⌝ }
 {
-    weigh(c, heights_of(w, c, table))
+    weigh(c, heights_of(w, c, exps))
 }
 
-fn a_units(l: LoanInputs, w: u64, table: &Exponentials) -> Signed
-    requires { ⌜ Chargeable l × (w ≡ ratioUnits l) × (now table ≡ entries) ⌝ }
+fn a_units(l: LoanInputs, w: u64, exps: &Exponentials) -> Signed
+    requires { ⌜ Chargeable l × (w ≡ ratioUnits l) × (now exps ≡ exponentials) ⌝ }
     ensures { λ r. ⌜ r ≡ aUnits l ⌝ }
 {
-    curve_units(w, curve_a(first_set(l.term), l.months), table)
+    curve_units(w, curve_a(first_set(l.term), l.months), exps)
 }
 
-fn b_units(l: LoanInputs, w: u64, table: &Exponentials) -> Signed
-    requires { ⌜ Chargeable l × (w ≡ ratioUnits l) × (now table ≡ entries) ⌝ }
+fn b_units(l: LoanInputs, w: u64, exps: &Exponentials) -> Signed
+    requires { ⌜ Chargeable l × (w ≡ ratioUnits l) × (now exps ≡ exponentials) ⌝ }
     ensures { λ r. ⌜ r ≡ bUnits l ⌝ }
 {
-    curve_units(w, curve_b(first_set(l.term), l.months), table)
+    curve_units(w, curve_b(first_set(l.term), l.months), exps)
 }
 
 // 10^7 x + k y, for x and y in units of 2^-40: of two parts each, so that no product passes 64 bits.
@@ -298,22 +297,22 @@ fn rounded_down(x: Signed) -> Signed
 }
 
 // The base.
-fn base_units(l: LoanInputs, w: u64, table: &Exponentials) -> Signed
-    requires { ⌜ Chargeable l × (w ≡ ratioUnits l) × (now table ≡ entries) ⌝ }
+fn base_units(l: LoanInputs, w: u64, exps: &Exponentials) -> Signed
+    requires { ⌜ Chargeable l × (w ≡ ratioUnits l) × (now exps ≡ exponentials) ⌝ }
     ensures { λ r. ⌜ r ≡ baseUnits l ⌝ }
 {
-    let a = a_units(l, w, table);
-    let b = b_units(l, w, table);
+    let a = a_units(l, w, exps);
+    let b = b_units(l, w, exps);
     times_rate(curves_sum(l.balance, a, b), factor_of(l.factor))
 }
 
 // r of the supplement.
-fn rate_units(l: LoanInputs, w: u64, table: &Exponentials) -> u64
-    requires { ⌜ Chargeable l × (w ≡ ratioUnits l) × (now table ≡ entries) ⌝ }
+fn rate_units(l: LoanInputs, w: u64, exps: &Exponentials) -> u64
+    requires { ⌜ Chargeable l × (w ≡ ratioUnits l) × (now exps ≡ exponentials) ⌝ }
     ensures { λ r. ⌜ r ≡ rateUnits l ⌝ }
 {
     let first = first_set(l.term);
-    let e = exponential::exp_upper(l.months * 274877906944 / 120, table);
+    let e = exponential::exp_upper(l.months * 274877906944 / 120, exps);
     rate_of(w, rate_c(first, l.months), rate_b(first, l.months), e)
 }
 
@@ -347,7 +346,7 @@ pub fn table() -> Exponentials
 
 // A loan's two numbers.
 pub fn charge(l: LoanInputs, exps: &Exponentials) -> LoanCharge
-    requires { ⌜ Chargeable l × (now exps ≡ entries) ⌝ }
+    requires { ⌜ Chargeable l × (now exps ≡ exponentials) ⌝ }
     ensures { λ r. ⌜ r ≡ chargeOf l ⌝ }
 {
     let w = scaled_value(l.value, l.over);

@@ -3,7 +3,7 @@
 // 1 p q balance months term sup m, and the range of the total and of the supplement
 // 2 scored number age aged loans unscored, and m
 ghost use mathlib.Core.Path.{_≡_};
-ghost use Prim.Native.Nat.{_+_, _<_, _≤_};
+ghost use Prim.Native.Nat.{_<_, _≤_};
 ghost use lib.ListN.{length};
 ghost use Rattle.loan_charge.specs.Tables.{exponentials};
 use cases::Number;

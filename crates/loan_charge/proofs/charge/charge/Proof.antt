@@ -5,7 +5,7 @@ use mathlib.Core.Path.{sym, _∙_, ap, ap₂, subst⁻¹}
 use mathlib.Core.Bool.{Bool, true, false}
 use Rattle.fixed_point.specs.declared.Signed.{Signed}
 use Rattle.loan_charge.specs.Computation.{baseUnits, rateUnits, chargeFrom, chargeOf}
-use Rattle.loan_charge.proofs.Money.{AtMost}
+use Rattle.loan_charge.proofs.Money.{SignedAtMost}
 use Rattle.loan_charge.proofs.Sizes.{base-most, rate-units-most}
 use borrow.Author.Needs.{needs}
 use Rattle.loan_charge.proofs.charge.charge.Statement.{statement}
@@ -15,14 +15,14 @@ with-supplement-requires : tie.Need-with-supplement-requires
 with-supplement-requires c κs =
     let l = c .before .before .before .before .args .l in
     let ok = c .before .before .before .before .pre .0 in
-    let b : AtMost 119205000000000 27150000000 (c .before .before .base-units .result) =
-    subst⁻¹ (λ (x : Signed). AtMost 119205000000000 27150000000 x) (c .before .before .base-units .ensures) (base-most l ok) in
+    let b : SignedAtMost 119205000000000 27150000000 (c .before .before .base-units .result) =
+    subst⁻¹ (λ (x : Signed). SignedAtMost 119205000000000 27150000000 x) (c .before .before .base-units .ensures) (base-most l ok) in
     (b .plus, b .minus, omega (arith, c .rate-units .ensures, rate-units-most l ok))
 
 without-supplement-requires : tie.Need-without-supplement-requires
 without-supplement-requires c κs =
-    let b : AtMost 119205000000000 27150000000 (c .before .base-units .result) =
-    subst⁻¹ (λ (x : Signed). AtMost 119205000000000 27150000000 x) (c .before .base-units .ensures) (base-most (c .before .before .before .args .l) (c .before .before .before .pre .0)) in
+    let b : SignedAtMost 119205000000000 27150000000 (c .before .base-units .result) =
+    subst⁻¹ (λ (x : Signed). SignedAtMost 119205000000000 27150000000 x) (c .before .base-units .ensures) (base-most (c .before .before .before .args .l) (c .before .before .before .pre .0)) in
     (b .plus, b .minus)
 
 returns : tie.Need-returns

@@ -2,7 +2,7 @@
 use mathlib.Core.Path.{_∙_, ap, subst⁻¹}
 use Rattle.loan_charge.specs.declared.charge.Heights.{Heights}
 use Rattle.loan_charge.specs.Computation.{weighted, curveUnits}
-use Rattle.loan_charge.proofs.Money.{Small}
+use Rattle.loan_charge.proofs.Money.{AtMostOne}
 use Rattle.loan_charge.proofs.Sizes.{heights-small}
 use borrow.Author.Needs.{needs}
 use Rattle.loan_charge.proofs.charge.curve_units.Statement.{statement}
@@ -10,7 +10,7 @@ use Rattle.loan_charge.proofs.charge.curve_units.Tie as tie
 
 weigh-requires : tie.Need-weigh-requires
 weigh-requires c κs =
-    let small : Small (c .heights-of .result) = subst⁻¹ (λ (h : Heights). Small h) (c .heights-of .ensures) (heights-small (c .before .args .w) (c .before .args .c)) in
+    let small : AtMostOne (c .heights-of .result) = subst⁻¹ (λ (h : Heights). AtMostOne h) (c .heights-of .ensures) (heights-small (c .before .args .w) (c .before .args .c)) in
     (c .before .pre .1, small .first, small .second)
 
 returns : tie.Need-returns

@@ -1,8 +1,7 @@
 use mathlib.Core.Path.{_∙_, ap}
-use Prim.Native.Nat.{ℕ}
+use Prim.Native.Nat.{ℕ, _/_}
 use native.Mathlib.Omega.{arith}
 use Rattle.loan_charge.specs.Computation.{exponent}
-use Prim.Native.Nat.{_/_}
 use Rattle.fixed_point.specs.Quotient.{scaledProduct}
 use Rattle.loan_charge.proofs.Gauss.{deviations-bound}
 use borrow.Author.Needs.{needs}

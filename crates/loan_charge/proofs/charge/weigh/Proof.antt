@@ -3,7 +3,6 @@ use native.Mathlib.Omega.{arith}
 use native.Mathlib.Nat.{mul-le-mul}
 use mathlib.Core.Path.{refl}
 use Rattle.loan_charge.specs.Computation.{weighted}
-use borrow.Author.Needs.{needs}
 use Rattle.loan_charge.proofs.charge.weigh.Statement.{statement}
 use Rattle.loan_charge.proofs.charge.weigh.Tie as tie
 
