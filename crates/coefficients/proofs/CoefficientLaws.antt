@@ -6,7 +6,8 @@ use lib.Dec.{leb}
 use borrow.Author.Needs.{needs}
 use borrow.Author.Tests.{leb-true, leb-false}
 use Rattle.exact.specs.Choice.{pick, upTo}
-use Rattle.coefficients.specs.Coefficients.{Months, curveA, curveB, weight1A, deviation1A, weight2A, deviation2A, weight1B, mean1B, deviation1B, weight2B, mean2B, deviation2B, rateC, rateB}
+use Rattle.coefficients.specs.Coefficients.{Months, curveA, curveB, weight1A, deviation1A, weight2A, deviation2A, weight1B, mean1B, deviation1B}
+use Rattle.coefficients.specs.Coefficients.{weight2B, mean2B, deviation2B, rateC, rateB}
 use Rattle.coefficients.specs.Promise.{Scaled, ScaledSigned, Mean, Deviation, ScaledCurveOf, Promise}
 use Rattle.coefficients.specs.Integers.{scaledA, scaledB, scaledC, tenthsB}
 
@@ -75,4 +76,9 @@ module _ (n : ℕ) (m : Months n) where
   tenths-b false = search needs
 
 pub promise : Promise
-promise = record { a = λ first n m. scaled-a n m first; b = λ first n m. scaled-b n m first; rate-c = λ first n m. scaled-c n m first; rate-b = λ first n m. tenths-b n m first }
+promise = record {
+  a = λ first n m. scaled-a n m first;
+  b = λ first n m. scaled-b n m first;
+  rate-c = λ first n m. scaled-c n m first;
+  rate-b = λ first n m. tenths-b n m first;
+}

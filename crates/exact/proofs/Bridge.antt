@@ -76,10 +76,12 @@ module _ {y : Fraction} {a d : ℕ} (h : At y a d) where
   -- E(n) is num a d n / den d n.
   pub sum-is : (n : ℕ) → partialSum n y ≈ quotient (num a d n) (den d n)
   unfolding partialSum num den
-  sum-is zero = Fractions.same-trans (Fractions.proper-quotient (a ^ 0) (den-pos d (h .positive) 0)) (term-is zero) (rw (pow-zero a) (Fractions.same-refl (whole 1)))
+  sum-is zero = Fractions.same-trans (Fractions.proper-quotient (a ^ 0) (den-pos d (h .positive) 0)) (term-is zero)
+      (rw (pow-zero a) (Fractions.same-refl (whole 1)))
   sum-is (suc n) =
       Fractions.same-trans
-      (Fractions.proper-sum (Fractions.proper-quotient (num a d n) (den-pos d (h .positive) n)) (Fractions.proper-quotient (a ^ suc n) (den-pos d (h .positive) (suc n))))
+      (Fractions.proper-sum (Fractions.proper-quotient (num a d n) (den-pos d (h .positive) n))
+      (Fractions.proper-quotient (a ^ suc n) (den-pos d (h .positive) (suc n))))
       (Fractions.same-sum (sum-is n) (term-is (suc n)))
       (record { crossed = omega arith })
 
@@ -88,13 +90,15 @@ module _ {y : Fraction} {a d : ℕ} (h : At y a d) where
 
   -- with the tail k times
   tail-sum-at : (n k : ℕ) → partialSum n y ⊕ whole k ⊗ seriesTerm y (suc n) ≈ quotient (num a d n) (den d n) ⊕ whole k ⊗ quotient (a ^ suc n) (den d (suc n))
-  tail-sum-at n k = Fractions.same-sum (sum-is n) (Fractions.same-product (record { positive = omega arith }) (term-proper (suc n)) (Fractions.same-refl (whole k)) (term-is (suc n)))
+  tail-sum-at n k = Fractions.same-sum (sum-is n)
+      (Fractions.same-product (record { positive = omega arith }) (term-proper (suc n)) (Fractions.same-refl (whole k)) (term-is (suc n)))
 
   tail-sum-is : (n : ℕ) → sumWithTail n y ≈ quotient (tailed a d n) (den d (suc n))
   unfolding tailed den
   tail-sum-is n =
       Fractions.same-trans
-      (Fractions.proper-sum (Fractions.proper-quotient (num a d n) (den-pos d (h .positive) n)) (Fractions.proper-product (record { positive = omega arith }) (Fractions.proper-quotient (a ^ suc n) (den-pos d (h .positive) (suc n)))))
+      (Fractions.proper-sum (Fractions.proper-quotient (num a d n) (den-pos d (h .positive) n))
+      (Fractions.proper-product (record { positive = omega arith }) (Fractions.proper-quotient (a ^ suc n) (den-pos d (h .positive) (suc n)))))
       (tail-sum-at n _)
       (record { crossed = omega arith })
 
@@ -109,7 +113,8 @@ module _ {y : Fraction} {a d : ℕ} (h : At y a d) where
 
   tail-sum-positive : (n : ℕ) → Positive (sumWithTail n y)
   tail-sum-positive n =
-      Fractions.positive-same (Fractions.proper-quotient (tailed a d n) (den-pos d (h .positive) (suc n))) (tail-sum-proper n) (Fractions.same-sym (tail-sum-is n))
+      Fractions.positive-same (Fractions.proper-quotient (tailed a d n) (den-pos d (h .positive) (suc n))) (tail-sum-proper n)
+      (Fractions.same-sym (tail-sum-is n))
       (record { above = tailed-pos n })
 
   pub high-proper : (n : ℕ) → Proper (bracketHigh n y)

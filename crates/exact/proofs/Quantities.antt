@@ -41,7 +41,8 @@ in-brackets e n m l a =
       alike = λ y z h k s. high-alike (at (e y h)) (at-same (e z k .proper) s (at (e y h))) m;
     }
 
-pub at-every-order : (q : Quantity) (Holds : Fraction → Type 0) → Exponents (q .exponents) → Eventually (λ x. Proper (q .value x) × Holds (q .value x)) → AtEveryOrder q Holds
+pub at-every-order : (q : Quantity) (Holds : Fraction → Type 0) → Exponents (q .exponents) →
+    Eventually (λ x. Proper (q .value x) × Holds (q .value x)) → AtEveryOrder q Holds
 at-every-order q Holds e v =
     record {
       at-order = λ n a.

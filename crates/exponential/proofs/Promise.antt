@@ -36,7 +36,8 @@ value-is : (g a d m : ℕ) → 0 < d → whole g ⊗ bracketHigh m (quotient a d
 value-is g a d m h =
     Fractions.same-trans
     (Fractions.proper-product (record { positive = omega arith }) (Fractions.proper-quotient (den d m) (num-pos a d h m)))
-    (Fractions.same-product (record { positive = omega arith }) (high-proper (at-quotient a d h) m) (Fractions.same-refl (whole g)) (high-is (at-quotient a d h) m))
+    (Fractions.same-product (record { positive = omega arith }) (high-proper (at-quotient a d h) m) (Fractions.same-refl (whole g))
+    (high-is (at-quotient a d h) m))
     (record { crossed = omega arith })
 
 -- A whole number not below g × exp(-y) at an order at which t - 1 is below the bracket is at least t.
@@ -58,11 +59,13 @@ least-of t g a d h l =
             from = l .above .order;
             holds = λ m le. (
               Fractions.proper-product (record { positive = omega arith }) (high-proper (at-quotient a d h) m),
-              Fractions.at-most-trans (Fractions.proper-quotient (g * den d m) (num-pos a d h m)) (Fractions.at-most-of-same (value-is g a d m h)) (record { crossed = omega (arith, above-from h (l .above) m le) }),
+              Fractions.at-most-trans (Fractions.proper-quotient (g * den d m) (num-pos a d h m)) (Fractions.at-most-of-same (value-is g a d m h))
+                  (record { crossed = omega (arith, above-from h (l .above) m le) }),
             );
           });
       least = λ s b.
-          let (x, good, proper, at-most) = b .at-order (l .order) (record { each = λ y k. only y k (λ z. Allowed (l .order) z) (allowed-of (at-quotient a d h) (l .order) (l .allowed)) }) in
+          let (x, good, proper, at-most) =
+          b .at-order (l .order) (record { each = λ y k. only y k (λ z. Allowed (l .order) z) (allowed-of (at-quotient a d h) (l .order) (l .allowed)) }) in
           reaches s t g a d (l .order) h (x (quotient a d)) (good .inside (quotient a d) (List·Memᴰ·head refl)) at-most (l .outside);
     }
 
@@ -77,7 +80,8 @@ near-of a d u w pos above below =
       holds = λ m le.
           let middle : Proper (quotient (2 ^ 40 * den d m) (num a d m)) = Fractions.proper-quotient (2 ^ 40 * den d m) (num-pos a d pos m) in (
             high-proper (at-quotient a d pos) m,
-            Fractions.at-most-trans middle (Fractions.at-most-of-same (value-is (2 ^ 40) a d m pos)) (record { crossed = omega (arith, above-from pos above m le) }),
+            Fractions.at-most-trans middle (Fractions.at-most-of-same (value-is (2 ^ 40) a d m pos))
+                (record { crossed = omega (arith, above-from pos above m le) }),
             Fractions.at-most-trans
                 (Fractions.proper-sum middle (record { positive = omega arith }))
                 (record { crossed = omega (arith, below .every m, mul-le-mul-right {m = u} {n = u - w + w} (num a d m) (omega arith)) })

@@ -42,4 +42,5 @@ pub record Promise : Type 0 where
   pub beyond : (y : ℕ) → 1536 * 2 ^ 32 ≤ y → Encloses y 42
   pub orders : (y : ℕ) → SomeAllowed (exponentOf y ∷ [])
   pub bounded : (y : ℕ) → expUpper y ≤ 2 ^ 40
-  pub near : (y a d : ℕ) → 0 < d → exponentOf y ≼ quotient a d → (quotient a d ≼ exponentOf (y + 5)) ⊎ (1536 * 2 ^ 32 ≤ y) → NearFrom (expUpper y) (quotient a d) 42
+  pub near : (y a d : ℕ) → 0 < d → exponentOf y ≼ quotient a d → (quotient a d ≼ exponentOf (y + 5)) ⊎ (1536 * 2 ^ 32 ≤ y) →
+      NearFrom (expUpper y) (quotient a d) 42

@@ -19,9 +19,12 @@ use Rattle.exponential.proofs.Laws as Exponential
 use Rattle.exact.specs.Choice.{pick}
 use Rattle.coefficients.specs.Coefficients.{Curve, firstSet}
 use Rattle.coefficients.specs.Integers.{scaledA, scaledB, scaledC, tenthsB}
-use Rattle.loan_charge.specs.Charge.{valueRatio, ratioOf, curveAOf, curveBOf, gaussExponent, exponent1, exponent2, exactBase, rateA, exactRate, exactSupplement, exactTotal, baseExponents, rateExponents, allExponents, totalExponents, supplementExponents, totalQuantity, supplementQuantity, Chargeable}
+use Rattle.loan_charge.specs.Charge.{valueRatio, ratioOf, curveAOf, curveBOf, gaussExponent, exponent1, exponent2, exactBase, rateA, exactRate}
+use Rattle.loan_charge.specs.Charge.{exactSupplement, exactTotal, baseExponents, rateExponents, allExponents, totalExponents}
+use Rattle.loan_charge.specs.Charge.{supplementExponents, totalQuantity, supplementQuantity, Chargeable}
 use Rattle.loan_charge.specs.Promise.{signedCents, tolerance, NearExact, Promised, InRange}
-use Rattle.loan_charge.specs.Computation.{scaledValue, ratioUnits, signed, height, heights, curveUnits, curvesSum, aUnits, bUnits, factor, rate, times, roundedUp, roundedDown, zeroAmount, baseUnits, rateUnits, chargeFrom, chargeOf}
+use Rattle.loan_charge.specs.Computation.{scaledValue, ratioUnits, signed, height, heights, curveUnits, curvesSum, aUnits, bUnits, factor, rate}
+use Rattle.loan_charge.specs.Computation.{times, roundedUp, roundedDown, zeroAmount, baseUnits, rateUnits, chargeFrom, chargeOf}
 use Rattle.coefficients.specs.declared.ScaledCurve.{ScaledCurve}
 use Rattle.loan_charge.specs.declared.LoanInputs.{LoanInputs}
 use Rattle.loan_charge.specs.declared.charge.LoanCharge.{LoanCharge}
@@ -29,9 +32,11 @@ use Rattle.fixed_point.specs.declared.Signed.{Signed}
 use Rattle.coefficients.specs.Promise.{Mean, Deviation, ScaledCurveOf}
 use Rattle.coefficients.proofs.CoefficientLaws.{scaled-a, scaled-b, scaled-c, tenths-b}
 use Rattle.loan_charge.proofs.Dependence.{total-determined, supplement-determined}
-use Rattle.loan_charge.proofs.ExactValues.{ValueAt, cents, ratio-is, ratio-proper, exponent-at, curvePlus, curveMinus, curve-proper, curve-is, base-proper, base-is, rate-proper, rate-is, product-is, sum-is}
+use Rattle.loan_charge.proofs.ExactValues.{ValueAt, cents, ratio-is, ratio-proper, exponent-at, curvePlus, curveMinus, curve-proper, curve-is}
+use Rattle.loan_charge.proofs.ExactValues.{base-proper, base-is, rate-proper, rate-is, product-is, sum-is}
 use Rattle.loan_charge.proofs.Gauss.{gauss-near, months-near, value-at, exponentNum, exponentDen}
-use Rattle.loan_charge.proofs.Money.{Value, Both, CentsAbove, CentsBelow, SignedAtMost, both-add, both-times, weighted-near, curves-near, factor-near, rateNum, rateDen, rate-near, rate-most, rounded-above, rounded-below}
+use Rattle.loan_charge.proofs.Money.{Value, Both, CentsAbove, CentsBelow, SignedAtMost, both-add, both-times, weighted-near, curves-near}
+use Rattle.loan_charge.proofs.Money.{factor-near, rateNum, rateDen, rate-near, rate-most, rounded-above, rounded-below}
 use Rattle.loan_charge.proofs.Near.{Near}
 use Rattle.loan_charge.proofs.ScaledValue.{held, value-alike}
 use Rattle.loan_charge.proofs.Sizes.{months-in, base-most, sum-most, rate-units-most, supplement-most}
@@ -100,7 +105,8 @@ module _ {x : Signed} {v : Fraction} (b : BaseNear x v) where
       let proper : Proper (v ⊕ whole 0) = Fractions.proper-sum (b .proper) (record { positive = omega arith }) in
       let same : v ⊕ whole 0 ≈ cents (b .plus * 1 + 0 * b .over) (b .minus * 1 + 0 * b .over) (b .over * 1) =
       Fractions.same-trans
-      (Fractions.proper-sum {x = cents (b .plus) (b .minus) (b .over)} {y = cents 0 0 1} (record { positive = omega (arith, b .positive) }) (record { positive = omega arith }))
+      (Fractions.proper-sum {x = cents (b .plus) (b .minus) (b .over)} {y = cents 0 0 1} (record { positive = omega (arith, b .positive) })
+      (record { positive = omega arith }))
       (Fractions.same-sum (b .same) (record { crossed = omega arith }))
       (sum-is (b .plus) (b .minus) (b .over) 0 0 1) in
       let above : CentsAbove (roundedUp x zeroAmount) (b .plus * 1 + 0 * b .over) (b .minus * 1 + 0 * b .over) (b .over * 1) =
@@ -276,14 +282,21 @@ module _ (l : LoanInputs) (c : Chargeable l) where
       numerator part =
           10 ^ 7 * part a (v₁ .N) (v₁ .D) (v₂ .N) (v₂ .D) * (v₃ .D * v₄ .D) + l .balance * part b (v₃ .N) (v₃ .D) (v₄ .N) (v₄ .D) * (v₁ .D * v₂ .D)
 
-      curves-both : Both (curvesSum (l .balance) (aUnits l) (bUnits l)) (numerator curvePlus) (numerator curveMinus) (v₁ .D * v₂ .D * (v₃ .D * v₄ .D)) 1518 1 1 1
+      curves-both : Both (curvesSum (l .balance) (aUnits l) (bUnits l)) (numerator curvePlus) (numerator curveMinus)
+          (v₁ .D * v₂ .D * (v₃ .D * v₄ .D)) 1518 1 1 1
       unfolding aUnits bUnits curveUnits
       curves-both =
           curves-near
           (curvePlus a (v₁ .N) (v₁ .D) (v₂ .N) (v₂ .D)) (curveMinus a (v₁ .N) (v₁ .D) (v₂ .N) (v₂ .D))
           (curvePlus b (v₃ .N) (v₃ .D) (v₄ .N) (v₄ .D)) (curveMinus b (v₃ .N) (v₃ .D) (v₄ .N) (v₄ .D))
           (l .balance) 1518 1
-          (omega (arith, a-is .weight1 .most, a-is .weight2 .plus-most, mul-le-mul (c .balance-most) (b-is .weight1 .most), mul-le-mul (c .balance-most) (b-is .weight2 .plus-most)))
+          (omega (
+            arith,
+            a-is .weight1 .most,
+            a-is .weight2 .plus-most,
+            mul-le-mul (c .balance-most) (b-is .weight1 .most),
+            mul-le-mul (c .balance-most) (b-is .weight2 .plus-most),
+          ))
           (omega (arith, a-is .weight2 .minus-most, mul-le-mul (c .balance-most) (b-is .weight2 .minus-most)))
           (weighted-near a (heights w a) (v₁ .value) (v₂ .value))
           (weighted-near b (heights w b) (v₃ .value) (v₄ .value))
@@ -350,7 +363,8 @@ module _ (l : LoanInputs) (c : Chargeable l) where
   unfolding chargeOf exactTotal exactSupplement
   charge-near = record { from = start; holds = λ k h. go (l .supplement) (base-at k h) (rate-at k h) }
     where
-      go : {v s : Fraction} (t : Bool) → BaseNear (baseUnits l) v → RateNear (rateUnits l) s → NearExact (chargeFrom t (baseUnits l) (rateUnits l)) (v ⊕ pick t (s ⊗ v) (whole 0)) (pick t (s ⊗ v) (whole 0))
+      go : {v s : Fraction} (t : Bool) → BaseNear (baseUnits l) v → RateNear (rateUnits l) s →
+          NearExact (chargeFrom t (baseUnits l) (rateUnits l)) (v ⊕ pick t (s ⊗ v) (whole 0)) (pick t (s ⊗ v) (whole 0))
       go true x y = together x y
       go false x y = alone x (rateUnits l)
 
@@ -415,7 +429,8 @@ module _ (l : LoanInputs) (c : Chargeable l) where
         let r : LoanCharge = chargeOf l in
         record {
           total-determined = total-determined l c;
-          total-at-least = at-every-order (totalQuantity l) (λ v. v ≼ signedCents (r .total)) total-exponents (mapped (λ k n. (n .total-proper, n .total-at-least)) law);
+          total-at-least = at-every-order (totalQuantity l) (λ v. v ≼ signedCents (r .total)) total-exponents
+              (mapped (λ k n. (n .total-proper, n .total-at-least)) law);
           total-near =
               at-every-order (totalQuantity l) (λ v. signedCents (r .total) ≺ v ⊕ g) total-exponents
               (mapped (λ k n. (n .total-proper, wider-total (n .total-proper) (n .total-near))) law);
@@ -472,6 +487,7 @@ pub charge-alike : (l : LoanInputs) (value over : ℕ) → 0 < l .over → 0 < o
 unfolding chargeOf baseUnits rateUnits aUnits bUnits
 charge-alike l value over pos pos' e =
     ap (λ (w : ℕ). chargeFrom (l .supplement)
-    (times (curvesSum (l .balance) (curveUnits w (scaledA (firstSet (l .term)) (l .months))) (curveUnits w (scaledB (firstSet (l .term)) (l .months)))) (factor (l .factor)))
+    (times (curvesSum (l .balance) (curveUnits w (scaledA (firstSet (l .term)) (l .months))) (curveUnits w (scaledB (firstSet (l .term)) (l .months))))
+    (factor (l .factor)))
     (rate w (scaledC (firstSet (l .term)) (l .months)) (tenthsB (firstSet (l .term)) (l .months)) (expUpper (l .months * 2 ^ 38 / 120))))
     (value-alike (l .value) (l .over) value over pos pos' e)

@@ -16,7 +16,9 @@ use Rattle.coefficients.specs.declared.ScaledCurve.{ScaledCurve}
 use Rattle.coefficients.specs.Promise.{ScaledCurveOf}
 use Rattle.coefficients.proofs.CoefficientLaws.{scaled-a, scaled-b, scaled-c}
 use Rattle.loan_charge.specs.declared.LoanInputs.{LoanInputs}
-use Rattle.loan_charge.specs.Charge.{ratioOf, exponent1, exponent2, curveValue, exactBase, rateA, exactRate, exactSupplement, exactTotal, baseExponents, rateExponents, allExponents, totalExponents, supplementExponents, totalQuantity, supplementQuantity, Chargeable}
+use Rattle.loan_charge.specs.Charge.{ratioOf, exponent1, exponent2, curveValue, exactBase, rateA, exactRate, exactSupplement, exactTotal}
+use Rattle.loan_charge.specs.Charge.{baseExponents, rateExponents, allExponents, totalExponents, supplementExponents, totalQuantity}
+use Rattle.loan_charge.specs.Charge.{supplementQuantity, Chargeable}
 use Rattle.loan_charge.proofs.ExactValues.{ratio-proper}
 use Rattle.loan_charge.proofs.Sizes.{months-in}
 

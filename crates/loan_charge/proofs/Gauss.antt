@@ -5,7 +5,8 @@ use mathlib.Core.Logic.{_⊎_, inl, inr}
 use Prim.Native.Nat.{ℕ, _+_, _*_, _-_, _/_, _^_, _≤_, _<_}
 use native.Mathlib.Decide.{decLe}
 use native.Mathlib.Omega.{arith}
-use native.Mathlib.Nat.{div-le-of-le-mul, mul-le-mul, mul-le-mul-right, mul-le-mul-left, mul-pos, le-trans, lt-of-not-le, div-mul-le-self, lt-div-mul-add, le-div-iff-mul-le}
+use native.Mathlib.Nat.{div-le-of-le-mul, mul-le-mul, mul-le-mul-right, mul-le-mul-left, mul-pos, le-trans, lt-of-not-le, div-mul-le-self}
+use native.Mathlib.Nat.{lt-div-mul-add, le-div-iff-mul-le}
 use Rattle.exact.proofs.Sums.{num, den, num-pos, growing}
 use Rattle.exponential.specs.Exponential.{expUpper}
 use Rattle.exponential.proofs.Laws as Exponential

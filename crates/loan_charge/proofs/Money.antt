@@ -4,12 +4,14 @@ use mathlib.Core.Path.{_≡_, refl, ap}
 use Prim.Native.Nat.{ℕ, _+_, _*_, _-_, _/_, _%_, _^_, _≤_, _<_, min}
 use native.Mathlib.Decide.{decLe}
 use native.Mathlib.Omega.{arith}
-use native.Mathlib.Nat.{mul-le-mul, mul-le-mul-left, mul-le-mul-right, add-le-add, min-le-left, min-le-right, min-eq-left, min-eq-right, sub-add-cancel, le-of-lt, lt-of-not-le}
+use native.Mathlib.Nat.{mul-le-mul, mul-le-mul-left, mul-le-mul-right, add-le-add, min-le-left, min-le-right, min-eq-left, min-eq-right}
+use native.Mathlib.Nat.{sub-add-cancel, le-of-lt, lt-of-not-le}
 use Rattle.fixed_point.specs.Quotient.{scaledProduct}
 use Rattle.loan_charge.specs.declared.charge.Heights.{Heights}
 use Rattle.fixed_point.specs.declared.Signed.{Signed}
 use Rattle.coefficients.specs.declared.ScaledCurve.{ScaledCurve}
-use Rattle.loan_charge.specs.Computation.{unit, limit, limited, totalPad, supplementPad, ceilingOffset, floorOffset, weighted, scaledSum, curvesSum, factor, rate, times, signed, roundedUp, roundedDown}
+use Rattle.loan_charge.specs.Computation.{unit, limit, limited, totalPad, supplementPad, ceilingOffset, floorOffset, weighted, scaledSum}
+use Rattle.loan_charge.specs.Computation.{curvesSum, factor, rate, times, signed, roundedUp, roundedDown}
 use Rattle.loan_charge.proofs.Near.{Near, Floored, near-add, near-mul, near-equal, near-scale, near-widen, near-multiple, near-floor}
 use Rattle.loan_charge.proofs.ScaledValue.{Held}
 

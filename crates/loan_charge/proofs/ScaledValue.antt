@@ -4,7 +4,9 @@ use mathlib.Core.Path.{_≡_, sym, _∙_, ap, ap₂, subst⁻¹}
 use Prim.Native.Nat.{ℕ, _+_, _*_, _/_, _%_, _^_, _≤_, _<_, min, max, zero-le}
 use native.Mathlib.Decide.{decLe}
 use native.Mathlib.Omega.{arith}
-use native.Mathlib.Nat.{mul-le-mul-left, mul-le-mul-right, le-of-mul-le-mul-right, le-trans, lt-of-le-of-lt, le-of-lt, max-eq-left, max-eq-right, min-eq-left, min-eq-right, div-eq-of-lt-le, le-div-iff-mul-le, div-lt-iff-lt-mul, div-add-mod', div-mul-le-self, lt-div-mul-add, mod-lt, le-max-right, mul-div-mul-right, mul-comm, min-le-right, lt-of-not-le}
+use native.Mathlib.Nat.{mul-le-mul-left, mul-le-mul-right, le-of-mul-le-mul-right, le-trans, lt-of-le-of-lt, le-of-lt, max-eq-left, max-eq-right}
+use native.Mathlib.Nat.{min-eq-left, min-eq-right, div-eq-of-lt-le, le-div-iff-mul-le, div-lt-iff-lt-mul, div-add-mod', div-mul-le-self}
+use native.Mathlib.Nat.{lt-div-mul-add, mod-lt, le-max-right, mul-div-mul-right, mul-comm, min-le-right, lt-of-not-le}
 use Rattle.fixed_point.specs.Quotient.{divisionStep}
 use Rattle.fixed_point.specs.declared.Division.{Division}
 use Rattle.fixed_point.proofs.Laws.{step-whole, step-remainder}
@@ -71,7 +73,8 @@ step₅ h e₁ e₂ e₃ e₄ e₅ = divided-step 512 (step₄ h e₁ e₂ e₃ 
 pub multiplied : (p q : ℕ) → 0 < q → Divided 120000 p q (record { quotient = p * 120000 / q; remainder = p * 120000 % q })
 multiplied p q h = record { whole = div-add-mod' (p * 120000) q ∙ mul-comm p 120000; small = mod-lt (p * 120000) h }
 
-pub multiplied-step : (p q : ℕ) {d : Division} → 0 < q → d ≡ divisionStep (record { quotient = p * 120000 / q; remainder = p * 120000 % q }) q 134217728 → d .quotient ≡ unit * p / q
+pub multiplied-step : (p q : ℕ) {d : Division} → 0 < q →
+    d ≡ divisionStep (record { quotient = p * 120000 / q; remainder = p * 120000 % q }) q 134217728 → d .quotient ≡ unit * p / q
 multiplied-step p q pos e = quotient-is (divided-step 134217728 (multiplied p q pos) e)
 
 -- The three cases of the value.

@@ -9,7 +9,8 @@ use Rattle.exponential.specs.Exponential.{expUpper}
 use Rattle.exponential.proofs.Laws as Exponential
 use Rattle.coefficients.specs.Coefficients.{Curve, firstSet, Months}
 use Rattle.coefficients.specs.Integers.{scaledA, scaledB, scaledC, tenthsB}
-use Rattle.loan_charge.specs.Computation.{exponent, height, heights, Usable, curveUnits, curvesSum, factor, rate, times, ratioUnits, aUnits, bUnits, baseUnits, rateUnits}
+use Rattle.loan_charge.specs.Computation.{exponent, height, heights, Usable, curveUnits, curvesSum, factor, rate, times, ratioUnits, aUnits}
+use Rattle.loan_charge.specs.Computation.{bUnits, baseUnits, rateUnits}
 use Rattle.loan_charge.specs.Charge.{Chargeable}
 use Rattle.loan_charge.specs.declared.LoanInputs.{LoanInputs}
 use Rattle.coefficients.specs.declared.ScaledCurve.{ScaledCurve}
@@ -73,11 +74,13 @@ factor-most m h = omega arith
 module _ (l : LoanInputs) (c : Chargeable l) where
   pub a-most : SignedAtMost (75816 * 2 ^ 40) (905 * 2 ^ 40) (aUnits l)
   unfolding aUnits
-  a-most = let h = curve-most (scaled-a (l .months) (months-in c) (firstSet (l .term))) (ratioUnits l) in record { plus = omega (arith, h .plus); minus = h .minus }
+  a-most = let h = curve-most (scaled-a (l .months) (months-in c) (firstSet (l .term))) (ratioUnits l)
+      in record { plus = omega (arith, h .plus); minus = h .minus }
 
   pub b-most : SignedAtMost (194880 * 2 ^ 40) 0 (bUnits l)
   unfolding bUnits
-  b-most = let h = curve-most (scaled-b (l .months) (months-in c) (firstSet (l .term))) (ratioUnits l) in record { plus = omega (arith, h .plus); minus = omega (arith, h .minus) }
+  b-most = let h = curve-most (scaled-b (l .months) (months-in c) (firstSet (l .term))) (ratioUnits l)
+      in record { plus = omega (arith, h .plus); minus = omega (arith, h .minus) }
 
   -- A and B together
   pub sum-most : SignedAtMost 39735000000000 9050000000 (curvesSum (l .balance) (aUnits l) (bUnits l))

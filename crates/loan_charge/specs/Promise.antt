@@ -61,4 +61,5 @@ pub record Promise : Type 0 where
   pub no-supplement : (l : LoanInputs) → l .supplement ≡ false → chargeOf l .supplement ≡ record { plus = 0; minus = 0 }
   -- every m lies between 0.01 and 3: under the built-in table, and under any other whose rates do
   pub built-in : RatesInRange builtInRates
-  pub factors : (rates : List ℕ) → RatesInRange rates → (aged : Bool) (loans unscored : ℕ) (score : Score) → FactorInRange (creditFactor rates aged loans unscored score)
+  pub factors : (rates : List ℕ) → RatesInRange rates → (aged : Bool) (loans unscored : ℕ) (score : Score) →
+      FactorInRange (creditFactor rates aged loans unscored score)

@@ -25,8 +25,10 @@ times-rate-requires c κs =
     let l = c .before .before .before .before .args .l in
     let ok = c .before .before .before .before .pre .0 in
     let e : c .before .curves-sum .result ≡ curvesSum (l .balance) (aUnits l) (bUnits l) =
-    c .before .curves-sum .ensures ∙ ap₂ (λ (x y : Signed). curvesSum (l .balance) x y) (c .before .before .before .a-units .ensures) (c .before .before .b-units .ensures) in
-    let s : SignedAtMost 39735000000000 9050000000 (c .before .curves-sum .result) = subst⁻¹ (λ (x : Signed). SignedAtMost 39735000000000 9050000000 x) e (sum-most l ok) in
+    c .before .curves-sum .ensures ∙
+    ap₂ (λ (x y : Signed). curvesSum (l .balance) x y) (c .before .before .before .a-units .ensures) (c .before .before .b-units .ensures) in
+    let s : SignedAtMost 39735000000000 9050000000 (c .before .curves-sum .result) =
+    subst⁻¹ (λ (x : Signed). SignedAtMost 39735000000000 9050000000 x) e (sum-most l ok) in
     (omega (arith, s .plus), omega (arith, s .minus), omega (arith, c .factor-of .ensures, factor-most (l .factor) (ok .factor-most)))
 
 returns : tie.Need-returns
@@ -35,7 +37,8 @@ returns c =
     let l = c .before .before .before .before .before .args .l in
     c .times-rate .ensures ∙
     ap₂ times
-    (c .before .before .curves-sum .ensures ∙ ap₂ (λ (x y : Signed). curvesSum (l .balance) x y) (c .before .before .before .before .a-units .ensures) (c .before .before .before .b-units .ensures))
+    (c .before .before .curves-sum .ensures ∙
+    ap₂ (λ (x y : Signed). curvesSum (l .balance) x y) (c .before .before .before .before .a-units .ensures) (c .before .before .before .b-units .ensures))
     (c .before .factor-of .ensures)
 
 pub base-units-spec : {M : Type 1} → statement M

@@ -22,7 +22,8 @@ with-supplement-requires c κs =
 without-supplement-requires : tie.Need-without-supplement-requires
 without-supplement-requires c κs =
     let b : SignedAtMost 119205000000000 27150000000 (c .before .base-units .result) =
-    subst⁻¹ (λ (x : Signed). SignedAtMost 119205000000000 27150000000 x) (c .before .base-units .ensures) (base-most (c .before .before .before .args .l) (c .before .before .before .pre .0)) in
+    subst⁻¹ (λ (x : Signed). SignedAtMost 119205000000000 27150000000 x) (c .before .base-units .ensures)
+    (base-most (c .before .before .before .args .l) (c .before .before .before .pre .0)) in
     (b .plus, b .minus)
 
 returns : tie.Need-returns
@@ -42,4 +43,5 @@ returns-2 c =
     ap (λ (t : Bool). chargeFrom t (baseUnits l) (rateUnits l)) (sym (c .before .if1 .left))
 
 pub charge-spec : {M : Type 1} → statement M
-charge-spec = tie.close (tie.spec (λ c κs. search needs) (λ c κs. search needs) (λ c κs. search needs) with-supplement-requires without-supplement-requires returns returns-2)
+charge-spec = tie.close (tie.spec (λ c κs. search needs) (λ c κs. search needs)
+    (λ c κs. search needs) with-supplement-requires without-supplement-requires returns returns-2)

@@ -10,7 +10,8 @@ use Rattle.loan_charge.proofs.charge.curve_units.Tie as tie
 
 weigh-requires : tie.Need-weigh-requires
 weigh-requires c κs =
-    let small : AtMostOne (c .heights-of .result) = subst⁻¹ (λ (h : Heights). AtMostOne h) (c .heights-of .ensures) (heights-small (c .before .args .w) (c .before .args .c)) in
+    let small : AtMostOne (c .heights-of .result) =
+    subst⁻¹ (λ (h : Heights). AtMostOne h) (c .heights-of .ensures) (heights-small (c .before .args .w) (c .before .args .c)) in
     (c .before .pre .1, small .first, small .second)
 
 returns : tie.Need-returns

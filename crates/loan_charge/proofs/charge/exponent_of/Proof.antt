@@ -10,7 +10,8 @@ use Rattle.loan_charge.proofs.charge.exponent_of.Tie as tie
 
 scaled-product-requires : tie.Need-scaled-product-requires
 scaled-product-requires c κs =
-    let h = deviations-bound (c .before .args .w) (c .before .args .mean) (c .before .args .deviation) (c .before .pre .0) (c .before .pre .1) (c .before .pre .2) in
+    let h = deviations-bound (c .before .args .w) (c .before .args .mean) (c .before .args .deviation) (c .before .pre .0) (c .before .pre .1)
+    (c .before .pre .2) in
     (omega (arith, c .deviations-from .ensures), omega (arith, c .deviations-from .ensures))
 
 returns : tie.Need-returns

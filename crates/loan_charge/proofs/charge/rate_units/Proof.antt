@@ -43,4 +43,5 @@ returns c =
     refl
 
 pub rate-units-spec : {M : Type 1} → statement M
-rate-units-spec = tie.close (tie.spec (λ c κs. search needs) (λ c. search needs) (λ c κs. search needs) rate-c-requires rate-b-requires rate-of-requires returns)
+rate-units-spec = tie.close
+    (tie.spec (λ c κs. search needs) (λ c. search needs) (λ c κs. search needs) rate-c-requires rate-b-requires rate-of-requires returns)

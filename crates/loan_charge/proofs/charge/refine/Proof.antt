@@ -14,7 +14,8 @@ division-step-requires-2 c κs =
 
 division-step-requires-3 : tie.Need-division-step-requires-3
 division-step-requires-3 c κs =
-    step-fits 512 (step₂ (begun (c .before .before .args .q) (c .before .before .args .d) (c .before .before .pre .1)) (c .before .division-step .ensures) (c .division-step2 .ensures))
+    step-fits 512 (step₂ (begun (c .before .before .args .q) (c .before .before .args .d) (c .before .before .pre .1))
+    (c .before .division-step .ensures) (c .division-step2 .ensures))
     (begun-bound (c .before .before .args .q) (c .before .before .args .d) (c .before .before .pre .1) (c .before .before .pre .0))
     (omega arith)
     (omega arith)
@@ -22,22 +23,31 @@ division-step-requires-3 c κs =
 
 division-step-requires-4 : tie.Need-division-step-requires-4
 division-step-requires-4 c κs =
-    step-fits 512 (step₃ (begun (c .before .before .before .args .q) (c .before .before .before .args .d) (c .before .before .before .pre .1)) (c .before .before .division-step .ensures) (c .before .division-step2 .ensures) (c .division-step3 .ensures))
-    (begun-bound (c .before .before .before .args .q) (c .before .before .before .args .d) (c .before .before .before .pre .1) (c .before .before .before .pre .0))
+    step-fits 512 (step₃ (begun (c .before .before .before .args .q) (c .before .before .before .args .d) (c .before .before .before .pre .1))
+    (c .before .before .division-step .ensures) (c .before .division-step2 .ensures) (c .division-step3 .ensures))
+    (begun-bound (c .before .before .before .args .q) (c .before .before .before .args .d) (c .before .before .before .pre .1)
+    (c .before .before .before .pre .0))
     (omega arith)
     (omega arith)
     (omega arith)
 
 division-step-requires-5 : tie.Need-division-step-requires-5
 division-step-requires-5 c κs =
-    step-fits 512 (step₄ (begun (c .before .before .before .before .args .q) (c .before .before .before .before .args .d) (c .before .before .before .before .pre .1)) (c .before .before .before .division-step .ensures) (c .before .before .division-step2 .ensures) (c .before .division-step3 .ensures) (c .division-step4 .ensures))
-    (begun-bound (c .before .before .before .before .args .q) (c .before .before .before .before .args .d) (c .before .before .before .before .pre .1) (c .before .before .before .before .pre .0))
+    step-fits 512 (step₄ (begun (c .before .before .before .before .args .q) (c .before .before .before .before .args .d)
+    (c .before .before .before .before .pre .1)) (c .before .before .before .division-step .ensures) (c .before .before .division-step2 .ensures)
+    (c .before .division-step3 .ensures) (c .division-step4 .ensures))
+    (begun-bound (c .before .before .before .before .args .q) (c .before .before .before .before .args .d) (c .before .before .before .before .pre .1)
+    (c .before .before .before .before .pre .0))
     (omega arith)
     (omega arith)
     (omega arith)
 
 returns : tie.Need-returns
-returns c = quotient-is (step₅ (begun (c .before .before .before .before .before .args .q) (c .before .before .before .before .before .args .d) (c .before .before .before .before .before .pre .1)) (c .before .before .before .before .division-step .ensures) (c .before .before .before .division-step2 .ensures) (c .before .before .division-step3 .ensures) (c .before .division-step4 .ensures) (c .division-step5 .ensures))
+returns c = quotient-is (step₅
+    (begun (c .before .before .before .before .before .args .q) (c .before .before .before .before .before .args .d)
+    (c .before .before .before .before .before .pre .1)) (c .before .before .before .before .division-step .ensures)
+    (c .before .before .before .division-step2 .ensures) (c .before .before .division-step3 .ensures) (c .before .division-step4 .ensures)
+    (c .division-step5 .ensures))
 
 pub refine-spec : {M : Type 1} → statement M
 refine-spec =

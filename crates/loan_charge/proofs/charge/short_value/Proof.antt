@@ -17,9 +17,11 @@ division-step-requires c κs =
 
 returns-2 : tie.Need-returns-2
 returns-2 c =
-    value-between (c .before .before .args .p) (c .before .before .args .q) (c .division-step .result .quotient) (c .before .before .pre .0) (c .before .before .pre .1)
+    value-between (c .before .before .args .p) (c .before .before .args .q) (c .division-step .result .quotient) (c .before .before .pre .0)
+    (c .before .before .pre .1)
     (omega (arith, c .before .if1 .left))
     (multiplied-step (c .before .before .args .p) (c .before .before .args .q) (c .before .before .pre .0) (c .division-step .ensures))
 
 pub short-value-spec : {M : Type 1} → statement M
-short-value-spec = tie.close (tie.spec (λ c. search needs) (λ c. search needs) returns (λ c. search needs) (λ c. search needs) (λ c. search needs) division-step-requires returns-2)
+short-value-spec = tie.close
+    (tie.spec (λ c. search needs) (λ c. search needs) returns (λ c. search needs) (λ c. search needs) (λ c. search needs) division-step-requires returns-2)

@@ -13,10 +13,18 @@ mul-t4 : tie.Need-mul-t4
 mul-t4 c = omega (arith, mul-le-mul (c .before .before .before .before .pre .0 .plus2) (c .before .before .before .before .pre .2))
 
 add-t5 : tie.Need-add-t5
-add-t5 c = omega (arith, mul-le-mul (c .before .before .before .before .pre .0 .weight1) (c .before .before .before .before .pre .1), mul-le-mul (c .before .before .before .before .pre .0 .plus2) (c .before .before .before .before .pre .2))
+add-t5 c = omega (
+  arith,
+  mul-le-mul (c .before .before .before .before .pre .0 .weight1) (c .before .before .before .before .pre .1),
+  mul-le-mul (c .before .before .before .before .pre .0 .plus2) (c .before .before .before .before .pre .2),
+)
 
 mul-t6 : tie.Need-mul-t6
-mul-t6 c = omega (arith, mul-le-mul (c .before .before .before .before .before .before .pre .0 .minus2) (c .before .before .before .before .before .before .pre .2))
+mul-t6 c = omega (
+  arith,
+  mul-le-mul (c .before .before .before .before .before .before .pre .0 .minus2)
+      (c .before .before .before .before .before .before .pre .2),
+)
 
 returns : tie.Need-returns
 unfolding weighted
