@@ -23,7 +23,7 @@ pub record Agree (ys : List Fraction) (x x′ : Assignment) : Type 0 where
 pub record DependsOn (ys : List Fraction) (value : Assignment → Fraction) : Type 0 where
   pub alike : (x x′ : Assignment) → Agree ys x x′ → Equals (value x) (value x′)
 
--- Every exponent in the quantity is among its exponents. Without this a bound on its values at some order would say nothing.
+-- Every exponent in the quantity is among its exponents: the exponential of one left out could take any value, and a bound would say nothing.
 abbrev pub Determined : Quantity → Type 0
 Determined q = DependsOn (q .exponents) (q .value)
 

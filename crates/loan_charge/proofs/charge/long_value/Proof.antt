@@ -13,8 +13,8 @@ refine-requires c κs = (c .if1 .left, mod-lt (c .before .args .p) (c .before .p
 
 returns-2 : tie.Need-returns-2
 returns-2 c =
-    whole-between (c .before .before .args .p) (c .before .before .args .q) (c .refine .result) (c .before .before .pre .0) (c .before .before .pre .1)
-    (c .before .if1 .left) (c .refine .ensures)
+    let s = c .before .before in
+    whole-between (s .args .p) (s .args .q) (c .refine .result) (s .pre .0) (s .pre .1) (c .before .if1 .left) (c .refine .ensures)
 
 pub long-value-spec : {M : Type 1} → statement M
 long-value-spec = tie.close (tie.spec (λ c. search needs) (λ c. search needs) returns (λ c. search needs) refine-requires returns-2)

@@ -10,17 +10,14 @@ returns c = value-most (c .before .args .p) (c .before .args .q) (c .before .pre
 
 division-step-requires : tie.Need-division-step-requires
 division-step-requires c κs =
-    step-fits 134217728 (multiplied (c .before .args .p) (c .before .args .q) (c .before .pre .0)) (omega (arith, c .if1 .left))
-    (omega arith)
-    (omega arith)
-    (omega arith)
+    let s = c .before in
+    step-fits 134217728 (multiplied (s .args .p) (s .args .q) (s .pre .0)) (omega (arith, c .if1 .left)) (omega arith) (omega arith) (omega arith)
 
 returns-2 : tie.Need-returns-2
 returns-2 c =
-    value-between (c .before .before .args .p) (c .before .before .args .q) (c .division-step .result .quotient) (c .before .before .pre .0)
-    (c .before .before .pre .1)
-    (omega (arith, c .before .if1 .left))
-    (multiplied-step (c .before .before .args .p) (c .before .before .args .q) (c .before .before .pre .0) (c .division-step .ensures))
+    let s = c .before .before in
+    value-between (s .args .p) (s .args .q) (c .division-step .result .quotient) (s .pre .0) (s .pre .1) (omega (arith, c .before .if1 .left))
+    (multiplied-step (s .args .p) (s .args .q) (s .pre .0) (c .division-step .ensures))
 
 pub short-value-spec : {M : Type 1} → statement M
 short-value-spec = tie.close

@@ -7,24 +7,16 @@ use Rattle.loan_charge.proofs.charge.weigh.Statement.{statement}
 use Rattle.loan_charge.proofs.charge.weigh.Tie as tie
 
 mul-t3 : tie.Need-mul-t3
-mul-t3 c = omega (arith, mul-le-mul (c .before .before .pre .0 .weight1) (c .before .before .pre .1))
+mul-t3 c = let h = c .before .before .pre in omega (arith, mul-le-mul (h .0 .weight1) (h .1))
 
 mul-t4 : tie.Need-mul-t4
-mul-t4 c = omega (arith, mul-le-mul (c .before .before .before .before .pre .0 .plus2) (c .before .before .before .before .pre .2))
+mul-t4 c = let h = c .before .before .before .before .pre in omega (arith, mul-le-mul (h .0 .plus2) (h .2))
 
 add-t5 : tie.Need-add-t5
-add-t5 c = omega (
-  arith,
-  mul-le-mul (c .before .before .before .before .pre .0 .weight1) (c .before .before .before .before .pre .1),
-  mul-le-mul (c .before .before .before .before .pre .0 .plus2) (c .before .before .before .before .pre .2),
-)
+add-t5 c = let h = c .before .before .before .before .pre in omega (arith, mul-le-mul (h .0 .weight1) (h .1), mul-le-mul (h .0 .plus2) (h .2))
 
 mul-t6 : tie.Need-mul-t6
-mul-t6 c = omega (
-  arith,
-  mul-le-mul (c .before .before .before .before .before .before .pre .0 .minus2)
-      (c .before .before .before .before .before .before .pre .2),
-)
+mul-t6 c = let h = c .before .before .before .before .before .before .pre in omega (arith, mul-le-mul (h .0 .minus2) (h .2))
 
 returns : tie.Need-returns
 unfolding weighted
