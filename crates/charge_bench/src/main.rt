@@ -5,6 +5,8 @@ ghost use Prim.Native.Nat.{_<_};
 ghost use Rattle.loan_charge.specs.Tables.{exponentials};
 use cases::Range;
 use fixed_point::Signed;
+use loan_charge::LoanInputs;
+use loan_charge::charge::Exponentials;
 use loan_charge::charge::LoanCharge;
 
 // The number after x of a sequence of numbers below 2^31 - 1, by which the loans differ.
@@ -16,15 +18,20 @@ fn next(x: u64) -> u64
 }
 
 // The charge of the loan of x: a value of 1 to 3.5 balances, either set of coefficients, m from 0.40 to 3.00.
-fn charge_of(x: u64, table: &[u64; 1537]) -> LoanCharge
+fn charge_of(x: u64, table: &Exponentials) -> LoanCharge
     requires { ⌜ (x < 2147483647) × (now table ≡ exponentials) ⌝ }
 {
     let balance = 100000000 + x % 100000000;
-    let value = balance + x / 8 % 250000000;
-    let months = 1 + x / 64 % 480;
-    let term = 1 + x / 8 % 120;
-    let m = (40 + x % 261) * 1000000000000000;
-    loan_charge::charge::charge(value, balance, balance, months, term, true, m, table)
+    let l = LoanInputs {
+        value: balance + x / 8 % 250000000,
+        over: balance,
+        balance,
+        months: 1 + x / 64 % 480,
+        term: 1 + x / 8 % 120,
+        supplement: true,
+        factor: (40 + x % 261) * 1000000000000000,
+    };
+    loan_charge::charge::charge(l, table)
 }
 
 fn add(x: Signed, y: Signed) -> Signed {
@@ -46,7 +53,7 @@ fn add_charge(a: LoanCharge, b: LoanCharge) -> LoanCharge {
 }
 
 // The sums of the numbers of `count` loans.
-fn charge_all(count: u64, table: &[u64; 1537]) -> LoanCharge
+fn charge_all(count: u64, table: &Exponentials) -> LoanCharge
     requires { ⌜ now table ≡ exponentials ⌝ }
 {
     let mut sums = LoanCharge {

@@ -1,45 +1,15 @@
 -- The whole numbers of specs/Integers.antt are the paper's coefficients, at every month and in both sets, and they are bounded.
-use Prim.Native.Nat.{ℕ, _*_, _-_, _≤_, _<_, min}
+use Prim.Native.Nat.{ℕ, _*_, _-_, _≤_, _<_}
 use mathlib.Core.Bool.{Bool, true, false}
 use mathlib.Core.Path.{_≡_, refl}
 use lib.Dec.{leb}
 use borrow.Author.Needs.{needs}
 use borrow.Author.Tests.{leb-true, leb-false}
-use Rattle.exact.specs.Fraction.{Fraction, Proper, quotient, _≈_}
 use Rattle.exact.specs.Choice.{pick, upTo}
-use Rattle.coefficients.specs.Coefficients.{Curve, curveA, curveB, weight1A, deviation1A, weight2A, deviation2A, weight1B, mean1B, deviation1B, weight2B, mean2B, deviation2B, rateC, rateB}
-use Rattle.coefficients.specs.Integers.{Months, scaledA, scaledB, scaledC, tenthsB}
-use Rattle.coefficients.specs.declared.ScaledCurve.{ScaledCurve}
-
--- x is i / over, and i lies between low and high
-pub record Scaled (over low high : ℕ) (x : Fraction) (i : ℕ) : Type 0 where
-  pub proper : Proper x
-  pub same : x ≈ quotient i over
-  pub least : low ≤ i
-  pub most : i ≤ high
-
--- x is (plus - minus) / over, one of the two is 0, and both are bounded
-pub record ScaledSigned (over most-plus most-minus minus : ℕ) (x : Fraction) (plus : ℕ) : Type 0 where
-  pub proper : Proper x
-  pub same : x ≈ record { plus = plus; minus = minus; over = over }
-  pub one-sided : min plus minus ≡ 0
-  pub plus-most : plus ≤ most-plus
-  pub minus-most : minus ≤ most-minus
-
-abbrev pub Mean : Fraction → ℕ → Type 0
-Mean = Scaled 120000 95304 170400
-
-abbrev pub Deviation : Fraction → ℕ → Type 0
-Deviation = Scaled 120000 8192 77256
-
--- A curve is given by its whole numbers.
-pub record ScaledCurveOf (most-weight1 most-plus2 most-minus2 : ℕ) (curve : Curve) (s : ScaledCurve) : Type 0 where
-  pub weight1 : Scaled 12 0 most-weight1 (curve .weight1) (s .weight1)
-  pub mean1 : Mean (curve .mean1) (s .mean1)
-  pub deviation1 : Deviation (curve .deviation1) (s .deviation1)
-  pub weight2 : ScaledSigned 12 most-plus2 most-minus2 (s .minus2) (curve .weight2) (s .plus2)
-  pub mean2 : Mean (curve .mean2) (s .mean2)
-  pub deviation2 : Deviation (curve .deviation2) (s .deviation2)
+use Rattle.coefficients.specs.Coefficients.{Months, curveA, curveB, weight1A, deviation1A, weight2A, deviation2A, weight1B, mean1B, deviation1B}
+use Rattle.coefficients.specs.Coefficients.{weight2B, mean2B, deviation2B, rateC, rateB}
+use Rattle.coefficients.specs.Promise.{Scaled, ScaledSigned, Mean, Deviation, ScaledCurveOf, Promise}
+use Rattle.coefficients.specs.Integers.{scaledA, scaledB, scaledC, tenthsB}
 
 -- Two choices at one limit are related where both sides of the limit are.
 choices : {A B : Type 0} (R : A → B → Type 0) (limit n : ℕ) {x y : A} {i j : B}
@@ -104,3 +74,11 @@ module _ (n : ℕ) (m : Months n) where
   unfolding rateB tenthsB
   tenths-b true = choices (Scaled 10 0 3) 120 n (λ a. search needs) (λ a. search needs)
   tenths-b false = search needs
+
+pub promise : Promise
+promise = record {
+  a = λ first n m. scaled-a n m first;
+  b = λ first n m. scaled-b n m first;
+  rate-c = λ first n m. scaled-c n m first;
+  rate-b = λ first n m. tenths-b n m first;
+}

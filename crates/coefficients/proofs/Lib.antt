@@ -1,1 +1,2 @@
 pub mod CoefficientLaws
+pub mod Examples

@@ -1,6 +1,6 @@
 -- The coefficients of the curves A and B (000, 1.1.2) and of the supplement's rate (000, 1.1.3), in years and per cents as printed.
 -- The first set (`true`) serves a remaining insurance term of up to five years, the other (`false`) a longer one.
-use Prim.Native.Nat.{ℕ}
+use Prim.Native.Nat.{ℕ, _≤_}
 use mathlib.Core.Bool.{Bool, true, false}
 use lib.Dec.{leb}
 use Rattle.exact.specs.Choice.{upTo}
@@ -13,6 +13,11 @@ firstSet term = leb term 60
 -- T*: the remaining amortization in years (document 01: amortization / 12), at most 40. Limits below are in months: 15.5 years are 186.
 abbrev pub years : ℕ → Fraction
 years months = quotient months 12
+
+-- a remaining amortization in months, as a line can have it
+pub record Months (n : ℕ) : Type 0 where
+  pub least : 1 ≤ n
+  pub most : n ≤ 480
 
 -- C1, μ1, σ1, C2, μ2, σ2 of a curve
 pub record Curve : Type 0 where

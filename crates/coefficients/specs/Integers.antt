@@ -1,14 +1,9 @@
--- The coefficients as the whole numbers that the code computes with: weights in 12ths, means and deviations in 120000ths, c in
--- 12000ths, b in tenths. No reader has to believe these: proofs/CoefficientLaws.antt has that each is the paper's.
-use Prim.Native.Nat.{ℕ, _+_, _*_, _-_, _≤_}
+-- Need not be believed: Promise.antt ties these numbers to the paper's. The coefficients as the whole numbers that the code computes with:
+-- weights in 12ths, means and deviations in 120000ths, c in 12000ths, b in tenths.
+use Prim.Native.Nat.{ℕ, _+_, _*_, _-_}
 use mathlib.Core.Bool.{Bool, true, false}
 use Rattle.exact.specs.Choice.{upTo}
 use Rattle.coefficients.specs.declared.ScaledCurve.{ScaledCurve}
-
--- a remaining amortization in months, as a line can have it
-pub record Months (n : ℕ) : Type 0 where
-  pub least : 1 ≤ n
-  pub most : n ≤ 480
 
 -- C2 of A is negative up to 8 months, so the second weight is plus2 - minus2, of which one is 0.
 unfoldable pub scaledA : Bool → ℕ → ScaledCurve

@@ -1,2 +1,4 @@
 pub mod Coefficients
+pub mod Examples
 pub mod Integers
+pub mod Promise

@@ -4,8 +4,8 @@ ghost use mathlib.Core.Path.{_≡_};
 ghost use mathlib.Core.Bool.{true, false};
 ghost use Prim.Native.Nat.{_-_};
 ghost use Rattle.exact.specs.Choice.{upTo};
-ghost use Rattle.coefficients.specs.Coefficients.{firstSet};
-ghost use Rattle.coefficients.specs.Integers.{Months, scaledA, scaledB, scaledC, tenthsB};
+ghost use Rattle.coefficients.specs.Coefficients.{firstSet, Months};
+ghost use Rattle.coefficients.specs.Integers.{scaledA, scaledB, scaledC, tenthsB};
 
 // The coefficients of a curve: weights in 12ths, means and deviations in 120000ths. The second weight is plus2 - minus2.
 pub struct ScaledCurve {

@@ -81,7 +81,12 @@ unfolding sum den num
 sums-are a d N w law zero h = refl
 sums-are a d N w law (suc n) h =
     rw (num-suc a d n)
-    (omega (arith, terms-are a d N w law (suc n) h, ap (λ (t : ℕ). suc n * d * t) (sums-are a d N w law n (omega arith)), ap (λ (t : ℕ). sum w n * t) (den-suc d n)))
+    (omega (
+      arith,
+      terms-are a d N w law (suc n) h,
+      ap (λ (t : ℕ). suc n * d * t) (sums-are a d N w law n (omega arith)),
+      ap (λ (t : ℕ). sum w n * t) (den-suc d n),
+    ))
 
 -- The convolution of two such sequences satisfies it with the sum of the exponents.
 convolution-law : (a b d N : ℕ) (u v : ℕ → ℕ) → Terms a d N u → Terms b d N v → (k s : ℕ) → s + k < N →

@@ -5,7 +5,7 @@ use Prim.Native.Nat.{ℕ, zero, suc, _+_, _-_, _*_, _^_, _≤_, _<_}
 use native.Mathlib.Nat.{mul-pos, pow-suc, pow-zero, mul-le-mul-left, sub-add-cancel, le-of-mul-le-mul-left, sub-zero}
 use native.Mathlib.Omega.{arith}
 use Rattle.exact.specs.Fraction.{Fraction, Proper, quotient, whole, _⊕_, _⊗_, _≈_}
-use Rattle.exact.specs.Exponential.{factorial, power, term, partialSum, sumWithTail, bracketLow, bracketHigh, Allowed, InBracket}
+use Rattle.exact.specs.Exponential.{factorial, power, seriesTerm, partialSum, sumWithTail, bracketLow, bracketHigh, Allowed, InBracket}
 use Rattle.exact.proofs.Fractions
 use Rattle.exact.proofs.Fractions.{Nonnegative, Positive}
 use Rattle.exact.proofs.Sums.{den, num, tailed, den-pos, num-pos, growing, tail}
@@ -58,10 +58,10 @@ module _ {y : Fraction} {a d : ℕ} (h : At y a d) where
       (Fractions.same-product (Fractions.proper-quotient (a ^ n) (pow-pos n)) (h .proper) (power-is n) (h .same))
       (record { crossed = omega arith }))
 
-  term-proper : (n : ℕ) → Proper (term y n)
+  term-proper : (n : ℕ) → Proper (seriesTerm y n)
   term-proper n = Fractions.proper-product (power-proper n) (Fractions.proper-quotient 1 (factorial-pos n))
 
-  term-is : (n : ℕ) → term y n ≈ quotient (a ^ n) (den d n)
+  term-is : (n : ℕ) → seriesTerm y n ≈ quotient (a ^ n) (den d n)
   term-is n =
       Fractions.same-trans
       (Fractions.proper-product (Fractions.proper-quotient (a ^ n) (pow-pos n)) (Fractions.proper-quotient 1 (factorial-pos n)))
@@ -76,10 +76,12 @@ module _ {y : Fraction} {a d : ℕ} (h : At y a d) where
   -- E(n) is num a d n / den d n.
   pub sum-is : (n : ℕ) → partialSum n y ≈ quotient (num a d n) (den d n)
   unfolding partialSum num den
-  sum-is zero = Fractions.same-trans (Fractions.proper-quotient (a ^ 0) (den-pos d (h .positive) 0)) (term-is zero) (rw (pow-zero a) (Fractions.same-refl (whole 1)))
+  sum-is zero = Fractions.same-trans (Fractions.proper-quotient (a ^ 0) (den-pos d (h .positive) 0)) (term-is zero)
+      (rw (pow-zero a) (Fractions.same-refl (whole 1)))
   sum-is (suc n) =
       Fractions.same-trans
-      (Fractions.proper-sum (Fractions.proper-quotient (num a d n) (den-pos d (h .positive) n)) (Fractions.proper-quotient (a ^ suc n) (den-pos d (h .positive) (suc n))))
+      (Fractions.proper-sum (Fractions.proper-quotient (num a d n) (den-pos d (h .positive) n))
+      (Fractions.proper-quotient (a ^ suc n) (den-pos d (h .positive) (suc n))))
       (Fractions.same-sum (sum-is n) (term-is (suc n)))
       (record { crossed = omega arith })
 
@@ -87,14 +89,16 @@ module _ {y : Fraction} {a d : ℕ} (h : At y a d) where
   tail-sum-proper n = Fractions.proper-sum (sum-proper n) (Fractions.proper-product (record { positive = omega arith }) (term-proper (suc n)))
 
   -- with the tail k times
-  tail-sum-at : (n k : ℕ) → partialSum n y ⊕ whole k ⊗ term y (suc n) ≈ quotient (num a d n) (den d n) ⊕ whole k ⊗ quotient (a ^ suc n) (den d (suc n))
-  tail-sum-at n k = Fractions.same-sum (sum-is n) (Fractions.same-product (record { positive = omega arith }) (term-proper (suc n)) (Fractions.same-refl (whole k)) (term-is (suc n)))
+  tail-sum-at : (n k : ℕ) → partialSum n y ⊕ whole k ⊗ seriesTerm y (suc n) ≈ quotient (num a d n) (den d n) ⊕ whole k ⊗ quotient (a ^ suc n) (den d (suc n))
+  tail-sum-at n k = Fractions.same-sum (sum-is n)
+      (Fractions.same-product (record { positive = omega arith }) (term-proper (suc n)) (Fractions.same-refl (whole k)) (term-is (suc n)))
 
   tail-sum-is : (n : ℕ) → sumWithTail n y ≈ quotient (tailed a d n) (den d (suc n))
   unfolding tailed den
   tail-sum-is n =
       Fractions.same-trans
-      (Fractions.proper-sum (Fractions.proper-quotient (num a d n) (den-pos d (h .positive) n)) (Fractions.proper-product (record { positive = omega arith }) (Fractions.proper-quotient (a ^ suc n) (den-pos d (h .positive) (suc n)))))
+      (Fractions.proper-sum (Fractions.proper-quotient (num a d n) (den-pos d (h .positive) n))
+      (Fractions.proper-product (record { positive = omega arith }) (Fractions.proper-quotient (a ^ suc n) (den-pos d (h .positive) (suc n)))))
       (tail-sum-at n _)
       (record { crossed = omega arith })
 
@@ -109,7 +113,8 @@ module _ {y : Fraction} {a d : ℕ} (h : At y a d) where
 
   tail-sum-positive : (n : ℕ) → Positive (sumWithTail n y)
   tail-sum-positive n =
-      Fractions.positive-same (Fractions.proper-quotient (tailed a d n) (den-pos d (h .positive) (suc n))) (tail-sum-proper n) (Fractions.same-sym (tail-sum-is n))
+      Fractions.positive-same (Fractions.proper-quotient (tailed a d n) (den-pos d (h .positive) (suc n))) (tail-sum-proper n)
+      (Fractions.same-sym (tail-sum-is n))
       (record { above = tailed-pos n })
 
   pub high-proper : (n : ℕ) → Proper (bracketHigh n y)

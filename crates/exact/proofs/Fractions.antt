@@ -4,7 +4,9 @@ use mathlib.Core.Path.{_≡_, refl, sym, _∙_, ap, ap₂}
 use Prim.Native.Nat.{ℕ, _+_, _*_, _≤_, _<_}
 use native.Mathlib.Decide.{decLe}
 use mathlib.Core.Logic.{⊎-elim, _⊎_, inl, inr}
-use native.Mathlib.Nat.{le-dest, le-of-lt, lt-of-not-le, max-eq-left, max-eq-right, min-eq-left, min-eq-right, sub-add-cancel, mul-le-mul-left, mul-le-mul-right, mul-lt-mul-of-pos-left, mul-pos, le-of-mul-le-mul-left, lt-of-mul-lt-mul-left, eq-of-mul-eq-mul-left, le-of-eq, le-antisymm, add-le-add, add-lt-add-of-lt-of-le}
+use native.Mathlib.Nat.{le-dest, le-of-lt, lt-of-not-le, max-eq-left, max-eq-right, min-eq-left, min-eq-right, sub-add-cancel, mul-le-mul-left}
+use native.Mathlib.Nat.{mul-le-mul-right, mul-lt-mul-of-pos-left, mul-pos, le-of-mul-le-mul-left, lt-of-mul-lt-mul-left, eq-of-mul-eq-mul-left}
+use native.Mathlib.Nat.{le-of-eq, le-antisymm, add-le-add}
 use native.Mathlib.Omega.{arith}
 use Rattle.exact.specs.Fraction.{Fraction, Proper, quotient, negated, _⊕_, _⊗_, _≼_, _≺_, _≈_, larger, smaller, reciprocal}
 
@@ -39,17 +41,22 @@ same-sym h = record { crossed = sym (h .crossed) }
 pub same-trans : {x y z : Fraction} → Proper y → x ≈ y → y ≈ z → x ≈ z
 same-trans {x} {y} {z} p h k =
     record {
-      crossed = eq-of-mul-eq-mul-left (y .over) (p .positive) _ _ (omega (arith, ap (λ (t : ℕ). z .over * t) (h .crossed), ap (λ (t : ℕ). x .over * t) (k .crossed)));
+      crossed = eq-of-mul-eq-mul-left (y .over) (p .positive) _ _
+          (omega (arith, ap (λ (t : ℕ). z .over * t) (h .crossed), ap (λ (t : ℕ). x .over * t) (k .crossed)));
     }
 
 -- one side of the order of two sums, put in order
 side : (p c a o o′ c′ m′ b′ : ℕ) → (p * c + a * o) * (o′ * c′) + (m′ * c′ + b′ * o′) * (o * c) ≡ c * c′ * (p * o′ + m′ * o) + o * o′ * (a * c′ + b′ * c)
 side p c a o o′ c′ m′ b′ = omega arith
 
-sum-left : (x x′ y y′ : Fraction) → (x ⊕ y) .plus * (x′ ⊕ y′) .over + (x′ ⊕ y′) .minus * (x ⊕ y) .over ≡ y .over * y′ .over * (x .plus * x′ .over + x′ .minus * x .over) + x .over * x′ .over * (y .plus * y′ .over + y′ .minus * y .over)
+sum-left : (x x′ y y′ : Fraction) →
+    (x ⊕ y) .plus * (x′ ⊕ y′) .over + (x′ ⊕ y′) .minus * (x ⊕ y) .over ≡
+    y .over * y′ .over * (x .plus * x′ .over + x′ .minus * x .over) + x .over * x′ .over * (y .plus * y′ .over + y′ .minus * y .over)
 sum-left x x′ y y′ = side (x .plus) (y .over) (y .plus) (x .over) (x′ .over) (y′ .over) (x′ .minus) (y′ .minus)
 
-sum-right : (x x′ y y′ : Fraction) → (x′ ⊕ y′) .plus * (x ⊕ y) .over + (x ⊕ y) .minus * (x′ ⊕ y′) .over ≡ y .over * y′ .over * (x′ .plus * x .over + x .minus * x′ .over) + x .over * x′ .over * (y′ .plus * y .over + y .minus * y′ .over)
+sum-right : (x x′ y y′ : Fraction) →
+    (x′ ⊕ y′) .plus * (x ⊕ y) .over + (x ⊕ y) .minus * (x′ ⊕ y′) .over ≡
+    y .over * y′ .over * (x′ .plus * x .over + x .minus * x′ .over) + x .over * x′ .over * (y′ .plus * y .over + y .minus * y′ .over)
 sum-right x x′ y y′ = sum-left x′ x y′ y ∙ omega arith
 
 pub same-sum : {x x′ y y′ : Fraction} → x ≈ x′ → y ≈ y′ → x ⊕ y ≈ x′ ⊕ y′
@@ -74,22 +81,18 @@ same-of-parts p m o = record { crossed = omega (arith, ap₂ _*_ p (sym o), ap�
 -- each part k times
 pub same-of-multiple : {x y : Fraction} (k : ℕ) → y .plus ≡ k * x .plus → y .minus ≡ k * x .minus → y .over ≡ k * x .over → x ≈ y
 same-of-multiple {x} {y} k p m o =
-    record { crossed = omega (arith, ap (λ (t : ℕ). x .plus * t) o, ap (λ (t : ℕ). t * x .over) m, ap (λ (t : ℕ). t * x .over) p, ap (λ (t : ℕ). x .minus * t) o) }
+    record {
+      crossed = omega (
+        arith,
+        ap (λ (t : ℕ). x .plus * t) o,
+        ap (λ (t : ℕ). t * x .over) m,
+        ap (λ (t : ℕ). t * x .over) p,
+        ap (λ (t : ℕ). x .minus * t) o,
+      );
+    }
 
 pub product-sum : (x y f : Fraction) → (x ⊕ y) ⊗ f ≈ x ⊗ f ⊕ y ⊗ f
 product-sum x y f = same-of-multiple (f .over) (omega arith) (omega arith) (omega arith)
-
-pub product-assoc : (x y z : Fraction) → x ⊗ y ⊗ z ≈ x ⊗ (y ⊗ z)
-product-assoc x y z = same-of-parts (omega arith) (omega arith) (omega arith)
-
-pub sum-comm : (x y : Fraction) → x ⊕ y ≈ y ⊕ x
-sum-comm x y = same-of-parts (omega arith) (omega arith) (omega arith)
-
-pub sum-assoc : (x y z : Fraction) → x ⊕ y ⊕ z ≈ x ⊕ (y ⊕ z)
-sum-assoc x y z = same-of-parts (omega arith) (omega arith) (omega arith)
-
-pub product-comm : (x y : Fraction) → x ⊗ y ≈ y ⊗ x
-product-comm x y = record { crossed = omega arith }
 
 pub same-product : {x x′ y y′ : Fraction} → Proper x′ → Proper y → x ≈ x′ → y ≈ y′ → x ⊗ y ≈ x′ ⊗ y′
 same-product {x} {x′} {y} {y′} p q h k =
@@ -110,7 +113,8 @@ at-most-of-below h = record { crossed = le-of-lt (h .crossed) }
 pub at-most-trans : {x y z : Fraction} → Proper y → x ≼ y → y ≼ z → x ≼ z
 at-most-trans {x} {y} {z} p h k =
     record {
-      crossed = le-of-mul-le-mul-left {k = y .over} (omega (arith, mul-le-mul-left (z .over) (h .crossed), mul-le-mul-left (x .over) (k .crossed))) (p .positive);
+      crossed = le-of-mul-le-mul-left {k = y .over} (omega (arith, mul-le-mul-left (z .over) (h .crossed), mul-le-mul-left (x .over) (k .crossed)))
+          (p .positive);
     }
 
 pub below-at-most : {x y z : Fraction} → Proper y → Proper z → x ≺ y → y ≼ z → x ≺ z
@@ -131,13 +135,8 @@ same-of-at-most h k = record { crossed = le-antisymm (h .crossed) (omega (arith,
 pub at-most-sum : {x x′ y y′ : Fraction} → x ≼ x′ → y ≼ y′ → x ⊕ y ≼ x′ ⊕ y′
 at-most-sum {x} {x′} {y} {y′} h k =
     record {
-      crossed = rw (sum-left x x′ y y′, sum-right x x′ y y′) (add-le-add (mul-le-mul-left (y .over * y′ .over) (h .crossed)) (mul-le-mul-left (x .over * x′ .over) (k .crossed)));
-    }
-
-pub below-sum : {x x′ y y′ : Fraction} → Proper y → Proper y′ → x ≺ x′ → y ≼ y′ → x ⊕ y ≺ x′ ⊕ y′
-below-sum {x} {x′} {y} {y′} p q h k =
-    record {
-      crossed = rw (sum-left x x′ y y′, sum-right x x′ y y′) (add-lt-add-of-lt-of-le (mul-lt-mul-of-pos-left (h .crossed) (mul-pos (p .positive) (q .positive))) (mul-le-mul-left (x .over * x′ .over) (k .crossed)));
+      crossed = rw (sum-left x x′ y y′, sum-right x x′ y y′)
+          (add-le-add (mul-le-mul-left (y .over * y′ .over) (h .crossed)) (mul-le-mul-left (x .over * x′ .over) (k .crossed)));
     }
 
 pub at-most-negated : {x y : Fraction} → x ≼ y → negated y ≼ negated x
@@ -157,17 +156,22 @@ exchanged a b L R h k =
     let (d, e) = le-dest h in
     omega (arith, mul-le-mul-left d k, ap (λ (t : ℕ). t * L) e, ap (λ (t : ℕ). t * R) e)
 
-product-left : (x x′ y : Fraction) → (x ⊗ y) .plus * (x′ ⊗ y) .over + (x′ ⊗ y) .minus * (x ⊗ y) .over ≡ y .over * (y .plus * (x .plus * x′ .over + x′ .minus * x .over) + y .minus * (x′ .plus * x .over + x .minus * x′ .over))
+product-left : (x x′ y : Fraction) →
+    (x ⊗ y) .plus * (x′ ⊗ y) .over + (x′ ⊗ y) .minus * (x ⊗ y) .over ≡
+    y .over * (y .plus * (x .plus * x′ .over + x′ .minus * x .over) + y .minus * (x′ .plus * x .over + x .minus * x′ .over))
 product-left x x′ y = omega arith
 
-product-right : (x x′ y : Fraction) → (x′ ⊗ y) .plus * (x ⊗ y) .over + (x ⊗ y) .minus * (x′ ⊗ y) .over ≡ y .over * (y .plus * (x′ .plus * x .over + x .minus * x′ .over) + y .minus * (x .plus * x′ .over + x′ .minus * x .over))
+product-right : (x x′ y : Fraction) →
+    (x′ ⊗ y) .plus * (x ⊗ y) .over + (x ⊗ y) .minus * (x′ ⊗ y) .over ≡
+    y .over * (y .plus * (x′ .plus * x .over + x .minus * x′ .over) + y .minus * (x .plus * x′ .over + x′ .minus * x .over))
 product-right x x′ y = omega arith
 
 pub at-most-product : {x x′ : Fraction} (y : Fraction) → Nonnegative y → x ≼ x′ → x ⊗ y ≼ x′ ⊗ y
 at-most-product {x} {x′} y n h =
     record {
       crossed = rw (product-left x x′ y, product-right x x′ y)
-          (mul-le-mul-left (y .over) (exchanged (y .plus) (y .minus) (x .plus * x′ .over + x′ .minus * x .over) (x′ .plus * x .over + x .minus * x′ .over) (n .above) (h .crossed)));
+          (mul-le-mul-left (y .over)
+          (exchanged (y .plus) (y .minus) (x .plus * x′ .over + x′ .minus * x .over) (x′ .plus * x .over + x .minus * x′ .over) (n .above) (h .crossed)));
     }
 
 -- The larger of two is one of them, and not below the other. The same of the smaller.
@@ -187,10 +191,12 @@ smaller-cases x y = go (decLe (x .plus * y .over + y .minus * x .over) (y .plus 
     go (no h) = inr (record { crossed = rw (min-eq-right (le-of-lt (lt-of-not-le h))) (omega arith) }, record { crossed = le-of-lt (lt-of-not-le h) })
 
 pub left-le-larger : {x y : Fraction} → Proper x → Proper y → x ≼ larger x y
-left-le-larger {x} {y} p q = ⊎-elim (λ c. at-most-of-same (same-sym (c .0))) (λ c. at-most-trans q (c .1) (at-most-of-same (same-sym (c .0)))) (larger-cases x y)
+left-le-larger {x} {y} p q = ⊎-elim (λ c. at-most-of-same (same-sym (c .0))) (λ c. at-most-trans q (c .1) (at-most-of-same (same-sym (c .0))))
+    (larger-cases x y)
 
 pub right-le-larger : {x y : Fraction} → Proper x → Proper y → y ≼ larger x y
-right-le-larger {x} {y} p q = ⊎-elim (λ c. at-most-trans p (c .1) (at-most-of-same (same-sym (c .0)))) (λ c. at-most-of-same (same-sym (c .0))) (larger-cases x y)
+right-le-larger {x} {y} p q = ⊎-elim (λ c. at-most-trans p (c .1) (at-most-of-same (same-sym (c .0)))) (λ c. at-most-of-same (same-sym (c .0)))
+    (larger-cases x y)
 
 pub larger-le : {x y z : Fraction} → Proper x → Proper y → x ≼ z → y ≼ z → larger x y ≼ z
 larger-le {x} {y} p q h k = ⊎-elim (λ c. at-most-trans p (at-most-of-same (c .0)) h) (λ c. at-most-trans q (at-most-of-same (c .0)) k) (larger-cases x y)
@@ -199,7 +205,8 @@ pub same-larger : {x x′ y y′ : Fraction} → Proper x → Proper x′ → Pr
 same-larger p p′ q q′ h k =
     same-of-at-most
     (larger-le p q (at-most-trans p′ (at-most-of-same h) (left-le-larger p′ q′)) (at-most-trans q′ (at-most-of-same k) (right-le-larger p′ q′)))
-    (larger-le p′ q′ (at-most-trans p (at-most-of-same (same-sym h)) (left-le-larger p q)) (at-most-trans q (at-most-of-same (same-sym k)) (right-le-larger p q)))
+    (larger-le p′ q′ (at-most-trans p (at-most-of-same (same-sym h)) (left-le-larger p q))
+    (at-most-trans q (at-most-of-same (same-sym k)) (right-le-larger p q)))
 
 pub smaller-le-left : {x y : Fraction} → Proper x → Proper y → smaller x y ≼ x
 smaller-le-left {x} {y} p q = ⊎-elim (λ c. at-most-of-same (c .0)) (λ c. at-most-trans q (at-most-of-same (c .0)) (c .1)) (smaller-cases x y)
@@ -208,13 +215,15 @@ pub smaller-le-right : {x y : Fraction} → Proper x → Proper y → smaller x 
 smaller-le-right {x} {y} p q = ⊎-elim (λ c. at-most-trans p (at-most-of-same (c .0)) (c .1)) (λ c. at-most-of-same (c .0)) (smaller-cases x y)
 
 pub le-smaller : {x y z : Fraction} → Proper x → Proper y → z ≼ x → z ≼ y → z ≼ smaller x y
-le-smaller {x} {y} p q h k = ⊎-elim (λ c. at-most-trans p h (at-most-of-same (same-sym (c .0)))) (λ c. at-most-trans q k (at-most-of-same (same-sym (c .0)))) (smaller-cases x y)
+le-smaller {x} {y} p q h k = ⊎-elim (λ c. at-most-trans p h (at-most-of-same (same-sym (c .0))))
+    (λ c. at-most-trans q k (at-most-of-same (same-sym (c .0)))) (smaller-cases x y)
 
 pub same-smaller : {x x′ y y′ : Fraction} → Proper x → Proper x′ → Proper y → Proper y′ → x ≈ x′ → y ≈ y′ → smaller x y ≈ smaller x′ y′
 same-smaller p p′ q q′ h k =
     same-of-at-most
     (le-smaller p′ q′ (at-most-trans p (smaller-le-left p q) (at-most-of-same h)) (at-most-trans q (smaller-le-right p q) (at-most-of-same k)))
-    (le-smaller p q (at-most-trans p′ (smaller-le-left p′ q′) (at-most-of-same (same-sym h))) (at-most-trans q′ (smaller-le-right p′ q′) (at-most-of-same (same-sym k))))
+    (le-smaller p q (at-most-trans p′ (smaller-le-left p′ q′) (at-most-of-same (same-sym h)))
+    (at-most-trans q′ (smaller-le-right p′ q′) (at-most-of-same (same-sym k))))
 
 -- 1 / x
 
@@ -224,7 +233,12 @@ proper-reciprocal h = record { positive = omega (arith, h .above) }
 pub same-reciprocal : {x y : Fraction} → Positive x → Positive y → x ≈ y → reciprocal x ≈ reciprocal y
 same-reciprocal {x} {y} p q h =
     record {
-      crossed = omega (arith, ap (λ (t : ℕ). x .over * t) (sub-add-cancel (le-of-lt (q .above))), ap (λ (t : ℕ). y .over * t) (sub-add-cancel (le-of-lt (p .above))), h .crossed);
+      crossed = omega (
+        arith,
+        ap (λ (t : ℕ). x .over * t) (sub-add-cancel (le-of-lt (q .above))),
+        ap (λ (t : ℕ). y .over * t) (sub-add-cancel (le-of-lt (p .above))),
+        h .crossed,
+      );
     }
 
 pub nonnegative-same : {x y : Fraction} → Proper x → Proper y → x ≈ y → Nonnegative x → Nonnegative y
@@ -237,8 +251,3 @@ positive-same {x} {y} p q h n =
 
 pub nonnegative-sum : {x y : Fraction} → Nonnegative x → Nonnegative y → Nonnegative (x ⊕ y)
 nonnegative-sum {x} {y} h k = record { above = add-le-add (mul-le-mul-right (y .over) (h .above)) (mul-le-mul-right (x .over) (k .above)) }
-
-pub nonnegative-product : {x y : Fraction} → Nonnegative x → Nonnegative y → Nonnegative (x ⊗ y)
-nonnegative-product {x} {y} h k =
-    let (d, e) = le-dest (k .above) in
-    record { above = omega (arith, mul-le-mul-left d (h .above), ap (λ (t : ℕ). x .plus * t) e, ap (λ (t : ℕ). x .minus * t) e) }

@@ -8,8 +8,13 @@ use native.Mathlib.Nat.{le-max-left, le-max-right, le-trans, mul-le-mul-left}
 use native.Mathlib.Omega.{arith}
 use Rattle.exact.specs.Fraction.{Fraction, Proper}
 use Rattle.exact.specs.Exponential.{Allowed, bracketHigh}
-use Rattle.exact.specs.Quantity.{Assignment, Quantity, AllowedAll, Good, Takes, SomeAllowed, Exponent, Eventually}
+use Rattle.exact.specs.Quantity.{Assignment, Quantity, AllowedAll, InBrackets, AtEveryOrder, SomeAllowed, Eventually}
 use Rattle.exact.proofs.Bridge.{At, at-of, at-same, inside, high-alike, allowed-of}
+
+-- An exponent: a fraction at or above 0.
+pub record Exponent (y : Fraction) : Type 0 where
+  pub proper : Proper y
+  pub nonnegative : y .minus ≤ y .plus
 
 -- every fraction of the list is an exponent
 abbrev pub Exponents : List Fraction → Type 0
@@ -29,20 +34,21 @@ at : {y : Fraction} → Exponent y → At y (y .plus - y .minus) (y .over)
 at e = at-of (e .proper) (record { above = e .nonnegative })
 
 -- with exp(-y) taken as 1 / E(m), all exponentials lie in their brackets of any allowed order up to m
-pub good : {ys : List Fraction} → Exponents ys → (n m : ℕ) → n ≤ m → AllowedAll n ys → Good n ys (bracketHigh m)
-good e n m l a =
+pub in-brackets : {ys : List Fraction} → Exponents ys → (n m : ℕ) → n ≤ m → AllowedAll n ys → InBrackets n ys (bracketHigh m)
+in-brackets e n m l a =
     record {
       inside = λ y h. inside (at (e y h)) n m l (a .each y h);
       alike = λ y z h k s. high-alike (at (e y h)) (at-same (e z k .proper) s (at (e y h))) m;
     }
 
-pub takes : (q : Quantity) (Stands : Fraction → Type 0) → Exponents (q .exponents) → Eventually (λ x. Proper (q .value x) × Stands (q .value x)) → Takes q Stands
-takes q Stands e v =
+pub at-every-order : (q : Quantity) (Holds : Fraction → Type 0) → Exponents (q .exponents) →
+    Eventually (λ x. Proper (q .value x) × Holds (q .value x)) → AtEveryOrder q Holds
+at-every-order q Holds e v =
     record {
       at-order = λ n a.
           let m : ℕ = max n (v .from) in
-          let h : Proper (q .value (bracketHigh m)) × Stands (q .value (bracketHigh m)) = v .holds m (le-max-right n (v .from)) in
-          (bracketHigh m, good e n m (le-max-left n (v .from)) a, h .0, h .1);
+          let h : Proper (q .value (bracketHigh m)) × Holds (q .value (bracketHigh m)) = v .holds m (le-max-right n (v .from)) in
+          (bracketHigh m, in-brackets e n m (le-max-left n (v .from)) a, h .0, h .1);
     }
 
 pub both : {A B : Assignment → Type 0} → Eventually A → Eventually B → Eventually (λ x. A x × B x)

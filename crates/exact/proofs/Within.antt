@@ -82,9 +82,11 @@ within-alike {x} {x′} {y} {y′} {a} p q e f h =
       lower = p;
       upper = q;
       width = h .width;
-      at-most = Fractions.at-most-trans (h .lower) (Fractions.at-most-of-same (Fractions.same-sym e)) (Fractions.at-most-trans (h .upper) (h .at-most) (Fractions.at-most-of-same f));
+      at-most = Fractions.at-most-trans (h .lower) (Fractions.at-most-of-same (Fractions.same-sym e))
+          (Fractions.at-most-trans (h .upper) (h .at-most) (Fractions.at-most-of-same f));
       near = Fractions.at-most-trans (h .upper) (Fractions.at-most-of-same (Fractions.same-sym f))
-          (Fractions.at-most-trans (Fractions.proper-sum (h .lower) (h .width)) (h .near) (Fractions.at-most-sum (Fractions.at-most-of-same e) (Fractions.at-most-refl a)));
+          (Fractions.at-most-trans (Fractions.proper-sum (h .lower) (h .width)) (h .near)
+          (Fractions.at-most-sum (Fractions.at-most-of-same e) (Fractions.at-most-refl a)));
     }
 
 -- the larger of each and 0
@@ -94,10 +96,14 @@ within-larger {x} {y} {a} {z} p n h =
       lower = Fractions.proper-larger (h .lower) p;
       upper = Fractions.proper-larger (h .upper) p;
       width = h .width;
-      at-most = Fractions.larger-le (h .lower) p (Fractions.at-most-trans (h .upper) (h .at-most) (Fractions.left-le-larger (h .upper) p)) (Fractions.right-le-larger (h .upper) p);
+      at-most = Fractions.larger-le (h .lower) p (Fractions.at-most-trans (h .upper) (h .at-most) (Fractions.left-le-larger (h .upper) p))
+          (Fractions.right-le-larger (h .upper) p);
       near = Fractions.larger-le (h .upper) p
-          (Fractions.at-most-trans (Fractions.proper-sum (h .lower) (h .width)) (h .near) (Fractions.at-most-sum (Fractions.left-le-larger (h .lower) p) (Fractions.at-most-refl a)))
-          (Fractions.at-most-trans (Fractions.proper-sum p (h .width)) (record { crossed = omega (arith, mul-le-mul-left (z .over * z .over) (n .above)) }) (Fractions.at-most-sum (Fractions.right-le-larger (h .lower) p) (Fractions.at-most-refl a)));
+          (Fractions.at-most-trans (Fractions.proper-sum (h .lower) (h .width)) (h .near)
+          (Fractions.at-most-sum (Fractions.left-le-larger (h .lower) p) (Fractions.at-most-refl a)))
+          (Fractions.at-most-trans (Fractions.proper-sum p (h .width))
+          (record { crossed = omega (arith, mul-le-mul-left (z .over * z .over) (n .above)) })
+          (Fractions.at-most-sum (Fractions.right-le-larger (h .lower) p) (Fractions.at-most-refl a)));
     }
 
 -- a share of each

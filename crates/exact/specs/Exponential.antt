@@ -11,17 +11,17 @@ power y zero = whole 1
 power y (suc n) = power y n ⊗ y
 
 -- y^k / k!
-abbrev pub term : Fraction → ℕ → Fraction
-term y k = power y k ⊗ quotient 1 (factorial k)
+abbrev pub seriesTerm : Fraction → ℕ → Fraction
+seriesTerm y k = power y k ⊗ quotient 1 (factorial k)
 
 -- E(n): the sum of y^k / k! for k from 0 to n
 unfoldable pub partialSum : ℕ → Fraction → Fraction
-partialSum zero y = term y zero
-partialSum (suc n) y = partialSum n y ⊕ term y (suc n)
+partialSum zero y = seriesTerm y zero
+partialSum (suc n) y = partialSum n y ⊕ seriesTerm y (suc n)
 
 -- E(n) + 2 y^(n+1) / (n+1)!
 abbrev pub sumWithTail : ℕ → Fraction → Fraction
-sumWithTail n y = partialSum n y ⊕ whole 2 ⊗ term y (suc n)
+sumWithTail n y = partialSum n y ⊕ whole 2 ⊗ seriesTerm y (suc n)
 
 -- The bracket of order n: from 1 / (E(n) + 2 y^(n+1) / (n+1)!) to 1 / E(n)
 abbrev pub bracketLow : ℕ → Fraction → Fraction

@@ -14,7 +14,8 @@ pub record Fraction : Type 0 where
   pub minus : ℕ
   pub over : ℕ
 
--- A fraction has a denominator above 0. Every statement about a fraction asks for this: 0/0 would meet any order.
+-- A fraction has a denominator above 0. The orders below do not ask for this, and 0/0 meets each of them: what states one says `Proper`
+-- beside it, or `Equals`.
 pub record Proper (x : Fraction) : Type 0 where
   pub positive : 0 < x .over
 
@@ -57,6 +58,12 @@ pub record _≺_ (x y : Fraction) : Type 0 where
 -- x and y are the same number
 pub record _≈_ (x y : Fraction) : Type 0 where
   pub crossed : x .plus * y .over + y .minus * x .over ≡ y .plus * x .over + x .minus * y .over
+
+-- x and y are fractions and the same number
+pub record Equals (x y : Fraction) : Type 0 where
+  pub left : Proper x
+  pub right : Proper y
+  pub same : x ≈ y
 
 -- the larger and the smaller of two
 abbrev pub larger : Fraction → Fraction → Fraction

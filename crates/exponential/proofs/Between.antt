@@ -1,46 +1,48 @@
 -- The value between two entries: at or above exp(-y), and by at most 16 units.
 -- Assumes nothing.
-use Prim.Native.Nat.{ℕ, _+_, _*_, _-_, _/_, _^_, _≤_, _<_}
-use mathlib.Core.Path.{_≡_, refl, ap}
+use Prim.Native.Nat.{ℕ, _+_, _*_, _-_, _/_, _%_, _^_, _≤_, _<_}
+use mathlib.Core.Path.{_≡_, ap, subst⁻¹}
 use lib.Dec.{lit≤}
-use native.Mathlib.Nat.{mul-le-mul, mul-le-mul-right, le-trans, le-of-lt, div-mul-le-self, lt-div-mul-add}
+use native.Mathlib.Decide.{decLe}
+use native.Mathlib.Nat.{mul-le-mul, mul-le-mul-right, le-trans, le-of-lt, div-add-mod'}
 use native.Mathlib.Omega.{arith}
 use Rattle.exact.proofs.Enclosure.{Above, Below, above-product, above-exponent, above-value, below-product, below-exponent, below-value}
-use Rattle.exponential.specs.Exponential.{innermost, middle, decrease, lowered}
+use Rattle.exponential.specs.Exponential.{halfSquare, thirdPart, decrease, lowered}
 use Rattle.exponential.proofs.Rule.{Least}
-use Rattle.exponential.proofs.Series.{Rounded, Small, above-remainder, below-remainder}
-use Rattle.exponential.proofs.Steps.{product-most, innermost-most, middle-most, decrease-most}
+use Rattle.exponential.proofs.Series.{Rounded, Alternating, SmallRemainder, alternating, alternating-zero, above-remainder, below-remainder}
+use Rattle.exponential.proofs.Steps.{product-most, half-square-most, decrease-most}
 
 module _ (r : ℕ) (h : r < 2 ^ 32) where
-  -- d is r (j - c)/k, rounded down.
-  step : (k j c w d : ℕ) → 0 < k → d ≡ 4 * r * w / 2 ^ 40 / k → w + c ≡ j * 2 ^ 40 →
-      (k * 2 ^ 38 * d + r * c ≤ 4 * j * 2 ^ 38 * r) × (4 * j * 2 ^ 38 * r ≤ r * c + k * 2 ^ 38 * (d + 1))
-  step k j c w d pos f e =
-      let q : ℕ = 4 * r * w / 2 ^ 40 in
-      let g : r * (w + c) ≡ r * (j * 2 ^ 40) = ap (λ (t : ℕ). r * t) e in
-      let i : d * k ≡ q / k * k = ap (λ (t : ℕ). t * k) f in
-      (omega (arith, div-mul-le-self q k), omega (arith, lt-div-mul-add {a = q} pos))
+  -- what rounding half the square down leaves
+  abbrev left : ℕ
+  left = 2 * (r * r % 2 ^ 37)
 
-  middles : (a b : ℕ) → a ≤ 2 ^ 40 → b ≡ 4 * r - 4 * r * a / 2 ^ 40 →
-      (4 * 2 ^ 38 * r ≤ 2 ^ 38 * b + r * a) × (2 ^ 38 * b + r * a ≤ 4 * 2 ^ 38 * r + 2 ^ 38)
-  middles a b most f = let g : 4 * r * a / 2 ^ 40 ≤ 1 * (4 * r) = product-most 1 (4 * r) a (omega arith) in (omega arith, omega arith)
-
-  rounded : Rounded (2 ^ 38) r (innermost (4 * r)) (middle (4 * r)) (decrease (4 * r))
-  unfolding innermost middle decrease
-  rounded =
-      let i = step 3 1 r _ (innermost (4 * r)) (lit≤ tt) refl (omega arith) in
-      let m = middles (innermost (4 * r)) (middle (4 * r)) (omega (arith, innermost-most (4 * r))) refl in
-      let o = step 2 2 (middle (4 * r)) _ (decrease (4 * r)) (lit≤ tt) refl (omega (arith, middle-most (4 * r))) in
+  rounded : 0 < r → Rounded (2 ^ 38) r (halfSquare r) (64 * thirdPart r) left (decrease r)
+  unfolding halfSquare thirdPart decrease
+  rounded pos =
+      let n : ℕ = halfSquare r * thirdPart r in
+      let i : n / 2 ^ 32 * 2 ^ 32 ≤ n = omega arith in
+      let j : n < (n / 2 ^ 32 + 1) * 2 ^ 32 = omega arith in
       record {
-        inner-low = i .0;
-        inner-high = i .1;
-        middle-low = m .0;
-        middle-high = m .1;
-        outer-low = o .0;
-        outer-high = o .1;
+        square = omega (arith, div-add-mod' (r * r) (2 ^ 37));
+        left = omega arith;
+        third-low = omega (arith, half-square-most r h);
+        third-high = omega (arith, half-square-most r h);
+        down-low = omega (arith, half-square-most r h);
+        down-high = omega (arith, half-square-most r h);
+        first = omega arith;
       }
 
-  small : Small (2 ^ 38) r
+  alternates : Alternating (2 ^ 38) r (decrease r)
+  alternates =
+      elim (decLe 1 r) [
+        | yes pos ↦ alternating (2 ^ 38) r (halfSquare r) (64 * thirdPart r) left (decrease r) (rounded pos)
+        | no zero ↦
+            let e : r ≡ 0 = omega arith in
+            rw e (subst⁻¹ (λ (d : ℕ). Alternating (2 ^ 38) 0 d) (omega (arith, decrease-most 0 (omega arith))) (alternating-zero (2 ^ 38)))
+      ]
+
+  small : SmallRemainder (2 ^ 38) r
   small =
       let one : r ≤ 2 ^ 32 = le-of-lt h in
       let two : r * r ≤ 2 ^ 32 * 2 ^ 32 = mul-le-mul one one in
@@ -55,22 +57,22 @@ module _ (r : ℕ) (h : r < 2 ^ 32) where
 
   -- An entry t at k/64, lowered for the remainder r.
   module _ (t k : ℕ) (l : Least t (2 ^ 40) k 64) (t-most : t ≤ 2 ^ 40) where
-    d-most : decrease (4 * r) ≤ 4 * r
-    d-most = decrease-most (4 * r)
+    d-most : decrease r ≤ 4 * r
+    d-most = decrease-most r h
 
     -- what rounding up the last product costs
     last-low : (d e : ℕ) → e + d ≡ 2 ^ 40 → t * e ≤ lowered t d * 2 ^ 40
     unfolding lowered
     last-low d e s = let g : t * (e + d) ≡ t * 2 ^ 40 = ap (λ (x : ℕ). t * x) s in omega arith
 
-    pub above-between : Above (lowered t (decrease (4 * r))) (2 ^ 40) (k * 2 ^ 32 + r) (2 ^ 38)
+    pub above-between : Above (lowered t (decrease r)) (2 ^ 40) (k * 2 ^ 32 + r) (2 ^ 38)
     above-between =
-        let d : ℕ = decrease (4 * r) in
+        let d : ℕ = decrease r in
         above-value {t = t * (2 ^ 40 - d)} {g = 2 ^ 40 * 2 ^ 40} (lit≤ tt)
         (omega (arith, last-low d (2 ^ 40 - d) (omega (arith, d-most))))
         (above-product (lit≤ tt)
         (above-exponent (lit≤ tt) (omega arith) (l .above))
-        (above-remainder (2 ^ 38) r (innermost (4 * r)) (middle (4 * r)) d (2 ^ 40 - d) (lit≤ tt) (omega (arith, d-most)) rounded))
+        (above-remainder (2 ^ 38) r d (2 ^ 40 - d) (lit≤ tt) (omega (arith, d-most)) alternates))
 
     last-high : (d v s : ℕ) → v + 14 + d ≡ 2 ^ 40 → t ≤ s + 1 → lowered t d * 2 ^ 40 ≤ s * v + 16 * 2 ^ 40
     unfolding lowered
@@ -80,13 +82,13 @@ module _ (r : ℕ) (h : r < 2 ^ 32) where
         let q : t * d / 2 ^ 40 ≤ 1 * t = product-most 1 t d (omega arith) in
         omega arith
 
-    pub below-between : Below (lowered t (decrease (4 * r)) - 16) (2 ^ 40) (k * 2 ^ 32 + r) (2 ^ 38)
+    pub below-between : Below (lowered t (decrease r) - 16) (2 ^ 40) (k * 2 ^ 32 + r) (2 ^ 38)
     below-between =
-        let d : ℕ = decrease (4 * r) in
-        let v : ℕ = 2 ^ 40 - d - 14 in
-        let e : v + 14 + d ≡ 2 ^ 40 = omega (arith, d-most) in
-        below-value {s = (t - 1) * v} {g = 2 ^ 40 * 2 ^ 40} (lit≤ tt)
-        (omega (arith, last-high d v (t - 1) e (omega arith)))
+        let d : ℕ = decrease r in
+        let u : ℕ = 2 ^ 40 - d - 14 in
+        let e : u + 14 + d ≡ 2 ^ 40 = omega (arith, d-most) in
+        below-value {s = (t - 1) * u} {g = 2 ^ 40 * 2 ^ 40} (lit≤ tt)
+        (omega (arith, last-high d u (t - 1) e (omega arith)))
         (below-product (lit≤ tt)
         (below-exponent (lit≤ tt) (omega arith) (l .below))
-        (below-remainder (2 ^ 38) r (innermost (4 * r)) (middle (4 * r)) d v (lit≤ tt) e rounded small))
+        (below-remainder (2 ^ 38) r d u (lit≤ tt) e alternates small))

@@ -9,19 +9,20 @@ use native.Mathlib.Nat.{le-of-lt, lt-of-le-of-lt, lt-of-mul-lt-mul-right, mul-le
 use native.Mathlib.Omega.{arith}
 use Rattle.exact.proofs.Enclosure.{below-tail}
 use Rattle.exact.proofs.Sums.{num, den, tailed, tail}
-use Rattle.exponential.specs.Table.{entries, entry, testOrder}
+use Rattle.exponential.specs.Table.{exponentials, entry}
+use Rattle.exponential.specs.Exponential.{testOrder}
 use Rattle.exponential.proofs.Rule.{Least, Rule}
 use Rattle.exponential.proofs.Every.{both, both-left, both-right, every, at}
 
 test : ℕ → ℕ → Bool
 test k t = both (leb (2 ^ 40 * den 64 testOrder) (t * num k 64 testOrder)) (ltb ((t - 1) * tailed k 64 testOrder) (2 ^ 40 * den 64 (suc testOrder)))
 
-tested : T (every test 0 entries)
-unfolding test entries num den tailed
+tested : T (every test 0 exponentials)
+unfolding test exponentials num den tailed
 tested = tt
 
-size : length entries ≡ 1537
-unfolding entries
+size : length exponentials ≡ 1537
+unfolding exponentials
 size = refl
 
 -- what the test says at one entry
@@ -29,7 +30,7 @@ tested-at : (k : ℕ) → k ≤ 1536 →
     (2 ^ 40 * den 64 testOrder ≤ entry k * num k 64 testOrder) × ((entry k - 1) * tailed k 64 testOrder < 2 ^ 40 * den 64 (suc testOrder))
 unfolding test
 tested-at k h =
-    let t : T (test k (entry k)) = at test entries tested k (omega (arith, size)) in
+    let t : T (test k (entry k)) = at test exponentials tested k (omega (arith, size)) in
     let high : Bool = leb (2 ^ 40 * den 64 testOrder) (entry k * num k 64 testOrder) in
     let low : Bool = ltb ((entry k - 1) * tailed k 64 testOrder) (2 ^ 40 * den 64 (suc testOrder)) in (
       leb→le (2 ^ 40 * den 64 testOrder) (entry k * num k 64 testOrder) (both-left high low t),

@@ -10,29 +10,23 @@ use native.Mathlib.Omega.{arith}
 use Rattle.exact.proofs.Enclosure.{Above, Below, above-from, above-exponent, below-product, below-exponent, below-value, below-tail}
 use Rattle.exact.proofs.Sums.{num, den, tailed}
 use Rattle.exponential.specs.Exponential.{lowered, decrease, expUpper}
-use Rattle.exponential.specs.Table.{entries, entry}
+use Rattle.exponential.specs.Table.{exponentials, entry}
 use Rattle.exponential.proofs.Between.{above-between, below-between}
 use Rattle.exponential.proofs.Entries.{rule, entry-bounded}
-use Rattle.exponential.proofs.Steps.{decrease-most, beyond, between}
+use Rattle.exponential.proofs.Steps.{nothing-lowered, beyond, between}
 
 -- The last entry.
 last : entry 1536 ≡ 42
-unfolding entries
+unfolding exponentials
 last = refl
 
 -- From 24 on the value is 42.
 pub from-24 : (y : ℕ) → 1536 * 2 ^ 32 ≤ y → expUpper y ≡ 42
 from-24 y h = beyond y h ∙ last
 
-nothing-lowered : (t : ℕ) → lowered t (decrease 0) ≡ t
-unfolding lowered
-nothing-lowered t =
-    let z : decrease 0 ≡ 0 = omega (arith, decrease-most 0) in
-    rw z (omega arith)
-
 -- By cases: below 24, and from there on.
 by-24 : (P : ℕ → Type 0) (y : ℕ) →
-    (y < 1536 * 2 ^ 32 → P (lowered (entry (y / 2 ^ 32)) (decrease (4 * (y % 2 ^ 32))))) → (1536 * 2 ^ 32 ≤ y → P (entry 1536)) → P (expUpper y)
+    (y < 1536 * 2 ^ 32 → P (lowered (entry (y / 2 ^ 32)) (decrease (y % 2 ^ 32)))) → (1536 * 2 ^ 32 ≤ y → P (entry 1536)) → P (expUpper y)
 by-24 P y below above =
     elim (decLe (1536 * 2 ^ 32) y) [
       | yes h ↦ rw (beyond y h) (above h)
@@ -59,7 +53,7 @@ lowered-most t d = omega arith
 pub bounded : (y : ℕ) → expUpper y ≤ 2 ^ 40
 bounded y =
     by-24 (λ (u : ℕ). u ≤ 2 ^ 40) y
-    (λ h. le-trans (lowered-most (entry (y / 2 ^ 32)) (decrease (4 * (y % 2 ^ 32)))) (entry-bounded (y / 2 ^ 32) (omega arith)))
+    (λ h. le-trans (lowered-most (entry (y / 2 ^ 32)) (decrease (y % 2 ^ 32))) (entry-bounded (y / 2 ^ 32) (omega arith)))
     (λ h. entry-bounded 1536 (le-refl 1536))
 
 -- The value is at or above exp(-y).
@@ -81,7 +75,7 @@ within-16 y h =
     (below-between (y % 2 ^ 32) (omega arith) (entry (y / 2 ^ 32)) (y / 2 ^ 32) (rule .at (y / 2 ^ 32) k) (entry-bounded (y / 2 ^ 32) k)))
 
 -- u in units of 2^-40 is at or above exp(-a/d), 1/E(m) for all m from some order on, by at most 42 units
-pub record Near (u a d : ℕ) : Type 0 where
+pub record NearExponential (u a d : ℕ) : Type 0 where
   pub from : ℕ
   pub above : (m : ℕ) → from ≤ m → 2 ^ 40 * den d m ≤ u * num a d m
   pub below : (m : ℕ) → u * num a d m ≤ 2 ^ 40 * den d m + 42 * num a d m
@@ -94,7 +88,7 @@ five-units = below-tail 1 (lit≤ tt) (lit≤ tt) (lit≤ tt)
 beyond-42 : (y a d : ℕ) → 1536 * 2 ^ 32 ≤ y → Below (expUpper y - 42) (2 ^ 40) a d
 beyond-42 y a d h = rw (from-24 y h) (record { every = λ n. omega arith })
 
-within-42 : (y a d : ℕ) → (2 ^ 38 * a ≤ (y + 5) * d) ⊎ (1536 * 2 ^ 32 ≤ y) → Below (expUpper y - 42) (2 ^ 40) a d
+pub within-42 : (y a d : ℕ) → (2 ^ 38 * a ≤ (y + 5) * d) ⊎ (1536 * 2 ^ 32 ≤ y) → Below (expUpper y - 42) (2 ^ 40) a d
 within-42 y a d (inr h) = beyond-42 y a d h
 within-42 y a d (inl close) =
     elim (decLe (1536 * 2 ^ 32) y) [
@@ -105,11 +99,15 @@ within-42 y a d (inl close) =
           (below-exponent (lit≤ tt) (omega arith) (below-product (lit≤ tt) (within-16 y (omega arith)) five-units))
     ]
 
+-- The value is at or above exp(-a/d) for every larger exponent a/d.
+pub above-at : (y a d : ℕ) → y * d ≤ 2 ^ 38 * a → Above (expUpper y) (2 ^ 40) a d
+above-at y a d low = above-exponent (lit≤ tt) (omega arith) (at-or-above y)
+
 -- The exponent a/d may lie up to 5 units above y, or anywhere above it where y is 24 or more.
-pub near : (y a d : ℕ) → 0 < d → y * d ≤ 2 ^ 38 * a → (2 ^ 38 * a ≤ (y + 5) * d) ⊎ (1536 * 2 ^ 32 ≤ y) → Near (expUpper y) a d
+pub near : (y a d : ℕ) → 0 < d → y * d ≤ 2 ^ 38 * a → (2 ^ 38 * a ≤ (y + 5) * d) ⊎ (1536 * 2 ^ 32 ≤ y) → NearExponential (expUpper y) a d
 near y a d pos low high =
     let u : ℕ = expUpper y in
-    let above : Above u (2 ^ 40) a d = above-exponent (lit≤ tt) (omega arith) (at-or-above y) in
+    let above : Above u (2 ^ 40) a d = above-at y a d low in
     record {
       from = above .order;
       above = above-from pos above;

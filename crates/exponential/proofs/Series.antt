@@ -1,5 +1,5 @@
--- Between two entries: x (1 - x/2 (1 - x/3 (1 - x/4))), rounded down, is nearly 1 - exp(-x), and never above it.
--- x is r / β; every law is over a variable β, in units of which the numbers here are at most 4 β.
+-- Between two entries: r - r²/2 (1 - r/3 (1 - r/4)), rounded down, is nearly 1 - exp(-r), and never above it.
+-- r stands for the fraction r / β; every law is over a variable β.
 -- Assumes nothing.
 use Prim.Native.Nat.{ℕ, _+_, _*_, _^_, _≤_, _<_}
 use mathlib.Core.Path.{_≡_, ap, _∙_}
@@ -8,14 +8,16 @@ use native.Mathlib.Omega.{arith}
 use Rattle.exact.proofs.Enclosure.{Above, Below, below-tail}
 use Rattle.exact.proofs.Sums.{num, den, tailed}
 
--- The three steps, each rounded down once: a is r/3 (1 - r/4), b is r (1 - a) and d is r (1 - b/2), in units of 1 / (4 β).
-pub record Rounded (β r a b d : ℕ) : Type 0 where
-  pub inner-low : 3 * β * a + r * r ≤ 4 * β * r
-  pub inner-high : 4 * β * r ≤ r * r + 3 * β * (a + 1)
-  pub middle-low : 4 * β * r ≤ β * b + r * a
-  pub middle-high : β * b + r * a ≤ 4 * β * r + β
-  pub outer-low : 2 * β * d + r * b ≤ 8 * β * r
-  pub outer-high : 8 * β * r ≤ r * b + 2 * β * (d + 1)
+-- One product a step: s is r²/2 rounded down and d the whole rounded down, both in units of 1 / (4 β), and w is r/3 (1 - r/4) rounded down,
+-- in units of 1 / β; g is what rounding s down leaves.
+pub record Rounded (β r s w g d : ℕ) : Type 0 where
+  pub square : β * s + g ≡ 2 * (r * r)
+  pub left : g ≤ β
+  pub third-low : 24 * w + s ≤ 8 * r
+  pub third-high : 8 * r ≤ 24 * w + s + 1700
+  pub down-low : β * (d + 1 + s) ≤ 4 * (β * r) + s * w
+  pub down-high : 4 * (β * r) + s * w ≤ β * (d + 2 + s)
+  pub first : 64 * r ≤ β
 
 -- 24 β⁴ E(4): its terms of even and of odd degree in r
 abbrev even : ℕ → ℕ → ℕ
@@ -29,26 +31,54 @@ squares : (β r : ℕ) →
     odd β r * odd β r + 6 * (β * β * β) * (96 * (β * β * β * β * β)) + (8 * (β * β * r * r * r * r * r * r) + r * r * r * r * r * r * r * r)
 squares β r = omega arith
 
-module _ (β r a b d : ℕ) (h : Rounded β r a b d) where
-  -- d is at most the alternating sum,
-  not-above : 6 * (β * β * β) * d + even β r ≤ odd β r + 24 * (β * β * β * β)
-  not-above =
-      omega (
-        arith,
-        mul-le-mul-left (3 * (β * β)) (h .outer-low),
-        mul-le-mul-left (3 * (β * r)) (h .middle-low),
-        mul-le-mul-left (r * r) (h .inner-low),
-      )
+-- d lies within these of the alternating sum.
+pub record Alternating (β r d : ℕ) : Type 0 where
+  pub not-above : 6 * (β * β * β) * d + even β r ≤ odd β r + 24 * (β * β * β * β)
+  pub nearly : odd β r + 24 * (β * β * β * β) ≤ 6 * (β * β * β) * d + even β r + 13 * (β * β * β) + 900 * (β * (r * r))
 
-  -- and nearly as large.
-  nearly : odd β r + 24 * (β * β * β * β) ≤ 6 * (β * β * β) * d + even β r + 6 * (β * β * β) + 3 * (β * β * r) + 3 * (β * r * r)
-  nearly =
-      omega (
+module _ (β r s w g d : ℕ) (h : Rounded β r s w g d) where
+  ss : β * β * (s * s) + 4 * (r * r * g) ≡ 4 * (r * r * r * r) + g * g
+  ss =
+      let e : β * s + g ≡ 2 * (r * r) = h .square in
+      omega (arith, ap (λ (t : ℕ). t * (β * s + g)) e, ap (λ (t : ℕ). 2 * (r * r) * t) e, ap (λ (t : ℕ). g * t) e)
+
+  low : 6 * (β * β * β) * d + 12 * (β * β * (r * r)) + r * r * r * r ≤ 24 * (β * β * β * r) + 4 * (β * (r * r * r))
+  low =
+      le-of-mul-le-mul-left {k = 4}
+      (omega (
         arith,
-        mul-le-mul-left (3 * (β * β)) (h .outer-high),
-        mul-le-mul-left (3 * (β * r)) (h .middle-high),
-        mul-le-mul-left (r * r) (h .inner-high),
-      )
+        ss,
+        mul-le-mul-left (24 * (β * β)) (h .down-low),
+        mul-le-mul-left (β * β * s) (h .third-low),
+        mul-le-mul-left (24 * (β * β)) (h .left),
+        ap (λ (t : ℕ). 24 * (β * β) * t) (h .square),
+        ap (λ (t : ℕ). 8 * (β * r) * t) (h .square),
+        mul-le-mul-left (r * g) (h .first),
+      ))
+      (omega arith)
+
+  high : 24 * (β * β * β * r) + 4 * (β * (r * r * r)) ≤ 6 * (β * β * β) * d + 12 * (β * β * (r * r)) + r * r * r * r + 13 * (β * β * β) + 900 * (β * (r * r))
+  high =
+      le-of-mul-le-mul-left {k = 4}
+      (omega (
+        arith,
+        ss,
+        mul-le-mul-left (24 * (β * β)) (h .down-high),
+        mul-le-mul-left (β * β * s) (h .third-high),
+        ap (λ (t : ℕ). 24 * (β * β) * t) (h .square),
+        ap (λ (t : ℕ). 8 * (β * r) * t) (h .square),
+        ap (λ (t : ℕ). 1700 * β * t) (h .square),
+        mul-le-mul-left (β * g) (h .first),
+        mul-le-mul-left g (h .left),
+      ))
+      (omega arith)
+
+  pub alternating : Alternating β r d
+  alternating = record { not-above = omega (arith, low); nearly = omega (arith, high) }
+
+-- with no remainder nothing is taken away
+pub alternating-zero : (β : ℕ) → Alternating β 0 0
+alternating-zero β = record { not-above = omega arith; nearly = omega arith }
 
 -- small powers as products
 p1 : (r : ℕ) → r ^ 1 ≡ r
@@ -91,8 +121,8 @@ difference-above p e C S q R pos h i =
     le-of-mul-le-mul-left {k = p} (omega (arith, mul-le-mul-right (C + S) h, i)) pos
 
 -- 1 - d is at or above exp(-x).
-pub above-remainder : (β r a b d e : ℕ) → 0 < β → e + d ≡ 4 * β → Rounded β r a b d → Above e (4 * β) r β
-above-remainder β r a b d e pos sum h = record {
+pub above-remainder : (β r d e : ℕ) → 0 < β → e + d ≡ 4 * β → Alternating β r d → Above e (4 * β) r β
+above-remainder β r d e pos sum h = record {
   order = 4;
   reached =
       rw (sum-of-4 β r, den-of-4 β)
@@ -101,7 +131,7 @@ above-remainder β r a b d e pos sum h = record {
         difference-above (6 * (β * β * β)) e (even β r) (odd β r) (96 * (β * β * β * β * β))
             (8 * (β * β * r * r * r * r * r * r) + r * r * r * r * r * r * r * r)
             (mul-pos (omega arith) (mul-pos (mul-pos pos pos) pos))
-            (omega (arith, not-above β r a b d h, ap (λ (t : ℕ). 6 * (β * β * β) * t) sum))
+            (omega (arith, h .not-above, ap (λ (t : ℕ). 6 * (β * β * β) * t) sum))
             (squares β r),
       ));
 }
@@ -113,18 +143,18 @@ tail-below : (p v M Q K q R g t : ℕ) → 0 < p → p * v * M + g * M ≤ p * q
 tail-below p v M Q K q R g t pos h i j = le-of-mul-le-mul-left {k = p} (omega (arith, mul-le-mul-left Q h, i, j)) pos
 
 -- r is so small against β that the terms beyond the fourth vanish in the rounding.
-pub record Small (β r : ℕ) : Type 0 where
+pub record SmallRemainder (β r : ℕ) : Type 0 where
   pub first : 64 * r ≤ β
   pub fifth : r * r * r * r * r ≤ 256 * (β * β * β * β)
   pub sixth : r * r * r * r * r * r ≤ 4 * (β * β * β * β * β)
   pub eighth : r * r * r * r * r * r * r * r ≤ β * β * β * β * β * β * β
 
-module _ (β r a b d v : ℕ) (pos : 0 < β) (sum : v + 14 + d ≡ 4 * β) (h : Rounded β r a b d) (small : Small β r) where
-  margin : 6 * (β * β * β) * v + odd β r + 77 * (β * β * β) ≤ even β r
+module _ (β r d v : ℕ) (pos : 0 < β) (sum : v + 14 + d ≡ 4 * β) (h : Alternating β r d) (small : SmallRemainder β r) where
+  margin : 6 * (β * β * β) * v + odd β r + 70 * (β * β * β) ≤ even β r
   margin =
       omega (
         arith,
-        nearly β r a b d h,
+        h .nearly,
         ap (λ (t : ℕ). 6 * (β * β * β) * t) sum,
         mul-le-mul-left (β * β) (small .first),
         mul-le-mul-left (β * r) (small .first),
@@ -132,7 +162,7 @@ module _ (β r a b d v : ℕ) (pos : 0 < β) (sum : v + 14 + d ≡ 4 * β) (h : 
 
   rest : 30 * (β * β) * (8 * (β * β * r * r * r * r * r * r) + r * r * r * r * r * r * r * r) +
       24 * (β * β * β * β) * (6 * (β * r * r * r * r * r) + 2 * (r * r * r * r * r * r)) ≤
-      30 * (β * β) * (77 * (β * β * β)) * (24 * (β * β * β * β))
+      30 * (β * β) * (70 * (β * β * β)) * (24 * (β * β * β * β))
   rest =
       omega (
         arith,
@@ -149,7 +179,7 @@ module _ (β r a b d v : ℕ) (pos : 0 < β) (sum : v + 14 + d ≡ 4 * β) (h : 
       let K : ℕ = 6 * (β * r * r * r * r * r) + 2 * (r * r * r * r * r * r) in
       let R : ℕ = 8 * (β * β * r * r * r * r * r * r) + r * r * r * r * r * r * r * r in
       let q : ℕ = 96 * (β * β * β * β * β) in
-      let g : ℕ = 77 * (β * β * β) in
+      let g : ℕ = 70 * (β * β * β) in
       let v-most : p * v ≤ 24 * (β * β * β * β) = omega (arith, mul-le-mul-left {m = v} {n = 4 * β} p (omega (arith, sum))) in
       below-tail 5 pos (omega (arith, small .first))
       (rw (tailed-of-5 β r, den-of-6 β)

@@ -2,32 +2,50 @@
 -- Assumes nothing.
 use Prim.Native.Nat.{ℕ, _*_, _-_, _/_, _%_, _^_, _≤_, _<_}
 use mathlib.Core.Path.{_≡_, refl}
-use borrow.Author.Tests.{le-leb, lt-leb}
-use native.Mathlib.Nat.{mul-le-mul-left}
+use native.Mathlib.Nat.{mul-le-mul, mul-le-mul-left, min-eq-left, min-eq-right, le-of-lt}
 use native.Mathlib.Omega.{arith}
 use Rattle.fixed_point.specs.Quotient.{scaledProduct}
-use Rattle.exponential.specs.Exponential.{innermost, middle, decrease, lowered, expUpper}
+use Rattle.exponential.specs.Exponential.{halfSquare, thirdPart, decrease, lowered, expWithin, expUpper}
 use Rattle.exponential.specs.Table.{entry}
 
 pub product-most : (k a b : ℕ) → b ≤ k * 2 ^ 40 → scaledProduct a b ≤ k * a
 product-most k a b h = omega (arith, mul-le-mul-left a h)
 
-pub innermost-most : (x : ℕ) → innermost x ≤ x
-unfolding innermost
-innermost-most x = omega (arith, product-most 1 x (2 ^ 40 - x / 4) (omega arith))
+module _ (r : ℕ) (h : r < 2 ^ 32) where
+  pub square-fits : r * r < 2 ^ 64
+  square-fits =
+      let l : r ≤ 4294967295 = omega arith in
+      omega (arith, mul-le-mul l l)
 
-pub middle-most : (x : ℕ) → middle x ≤ x
-unfolding middle
-middle-most x = omega arith
+  pub half-square-most : 32 * halfSquare r ≤ r
+  unfolding halfSquare
+  half-square-most = omega (arith, mul-le-mul-left r (le-of-lt h))
 
-pub decrease-most : (x : ℕ) → decrease x ≤ x
-unfolding decrease
-decrease-most x = omega (arith, product-most 2 x (2 * 2 ^ 40 - middle x) (omega arith))
+  -- the two parts fit their product
+  pub third-part-most : thirdPart r ≤ 2 ^ 32
+  unfolding thirdPart
+  third-part-most = omega arith
+
+  pub parts-fit : halfSquare r * thirdPart r ≤ 2 ^ 27 * 2 ^ 32
+  parts-fit =
+      let l : halfSquare r ≤ 2 ^ 27 = omega (arith, half-square-most) in
+      mul-le-mul l third-part-most
+
+  -- half the square times at most 1
+  pub decrease-most : decrease r ≤ 4 * r
+  unfolding decrease
+  decrease-most = omega (arith, mul-le-mul-left (halfSquare r) third-part-most, half-square-most)
+
+pub nothing-lowered : (t : ℕ) → lowered t (decrease 0) ≡ t
+unfolding lowered
+nothing-lowered t =
+    let z : decrease 0 ≡ 0 = omega (arith, decrease-most 0 (omega arith)) in
+    rw z (omega arith)
 
 pub beyond : (y : ℕ) → 1536 * 2 ^ 32 ≤ y → expUpper y ≡ entry 1536
-unfolding expUpper
-beyond y h = rw (expUpper, le-leb (1536 * 2 ^ 32) y h) refl
+unfolding expUpper expWithin
+beyond y h = rw (min-eq-right h) (nothing-lowered (entry 1536))
 
-pub between : (y : ℕ) → y < 1536 * 2 ^ 32 → expUpper y ≡ lowered (entry (y / 2 ^ 32)) (decrease (4 * (y % 2 ^ 32)))
-unfolding expUpper
-between y h = rw (expUpper, lt-leb (1536 * 2 ^ 32) y h) refl
+pub between : (y : ℕ) → y < 1536 * 2 ^ 32 → expUpper y ≡ lowered (entry (y / 2 ^ 32)) (decrease (y % 2 ^ 32))
+unfolding expUpper expWithin
+between y h = rw (min-eq-left (le-of-lt h)) refl

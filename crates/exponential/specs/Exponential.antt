@@ -1,34 +1,36 @@
--- exp(-y) in fixed point, never below it: from the table and, between two entries, the first terms of the alternating series.
-use Prim.Native.Nat.{ℕ, _*_, _-_, _/_, _%_, _^_}
-use mathlib.Core.Bool.{true, false}
-use lib.Dec.{leb}
+-- Need not be believed: Promise.antt says what it is worth. exp(-y) in fixed point, from the table and, between two entries, the first terms
+-- of the alternating series.
+use Prim.Native.Nat.{ℕ, _+_, _*_, _-_, _/_, _%_, _^_, min}
 use Rattle.fixed_point.specs.Quotient.{scaledProduct}
 use Rattle.exponential.specs.Table.{entry}
 
--- For x below one 64th, in units of 2^-40, 1 - exp(-x) is nearly x (1 - x/2 (1 - x/3 (1 - x/4))).
--- Its parts are rounded down and up by turns, so that the whole is rounded down.
+-- For a remainder r below one 64th, in units of 2^-38, 1 - exp(-r) is nearly r - r²/2 (1 - r/3 (1 - r/4)).
 
--- x/3 (1 - x/4), rounded down
-unfoldable pub innermost : ℕ → ℕ
-innermost x = scaledProduct x (2 ^ 40 - x / 4) / 3
+-- r²/2 in units of 2^-40, rounded down
+unfoldable pub halfSquare : ℕ → ℕ
+halfSquare r = r * r / 2 ^ 37
 
--- x (1 - x/3 (1 - x/4)), rounded up
-unfoldable pub middle : ℕ → ℕ
-middle x = x - scaledProduct x (innermost x)
+-- r/3 (1 - r/4) in units of 2^-32, rounded down: 8 r - halfSquare r is 8 r (1 - r/4), and 178956970 is 2^32 / 24 rounded down
+unfoldable pub thirdPart : ℕ → ℕ
+thirdPart r = (8 * r - halfSquare r) * 178956970 / 2 ^ 38
 
--- x (1 - x/2 (1 - x/3 (1 - x/4))), rounded down
+-- The whole in units of 2^-40, rounded down. Half the square is taken away, so that its rounding down leaves up to one unit too much:
+-- one unit more is taken away.
 unfoldable pub decrease : ℕ → ℕ
-decrease x = scaledProduct x (2 * 2 ^ 40 - middle x) / 2
+decrease r = 4 * r - halfSquare r + halfSquare r * thirdPart r / 2 ^ 32 - 1
 
 -- t (1 - d), rounded up
 unfoldable pub lowered : ℕ → ℕ → ℕ
 lowered t d = t - scaledProduct t d
 
--- exp(-y) in units of 2^-40, for y in units of 2^-38: at an entry's exponent the entry, from 24 on the last entry.
--- No other crate unfolds this: its laws are those of proofs/Laws.antt.
+-- exp(-x) in units of 2^-40, for x up to 24 in units of 2^-38: the entry at or below x, lowered for the remainder
+unfoldable pub expWithin : ℕ → ℕ
+expWithin x = lowered (entry (x / 2 ^ 32)) (decrease (x % 2 ^ 32))
+
+-- exp(-y): at an entry's exponent the entry, from 24 on the last entry. No other crate unfolds this: its laws are those of proofs/Laws.antt.
 unfoldable pub expUpper : ℕ → ℕ
-expUpper y =
-    elim (leb (1536 * 2 ^ 32) y) [
-      | true ↦ entry 1536
-      | false ↦ lowered (entry (y / 2 ^ 32)) (decrease (4 * (y % 2 ^ 32)))
-    ]
+expUpper y = expWithin (min y (1536 * 2 ^ 32))
+
+-- The order at which the rule is tested: the smallest that decides every entry.
+abbrev pub testOrder : ℕ
+testOrder = 46

@@ -4,8 +4,8 @@ use mathlib.Core.List.{List, [], _∷_}
 use lib.ListN.{getD}
 
 -- Entry k, from 0 to 1,536, is the least whole number not below 2^40 × exp(-k/64).
-unfoldable pub entries : List ℕ
-entries =
+unfoldable pub exponentials : List ℕ
+exponentials =
     1099511627776 ∷ 1082465279992 ∷ 1065683211334 ∷ 1049161324535 ∷ 1032895585849 ∷ 1016882024067 ∷ 1001116729548 ∷ 985595853267 ∷
     970315605869 ∷ 955272256748 ∷ 940462133139 ∷ 925881619214 ∷ 911527155205 ∷ 897395236533 ∷ 883482412952 ∷ 869785287708 ∷
     856300516709 ∷ 843024807705 ∷ 829954919493 ∷ 817087661116 ∷ 804419891090 ∷ 791948516634 ∷ 779670492918 ∷ 767582822316 ∷
@@ -202,8 +202,4 @@ entries =
     []
 
 abbrev pub entry : ℕ → ℕ
-entry k = getD entries k 0
-
--- The order at which the rule is tested: the smallest that decides every entry.
-abbrev pub testOrder : ℕ
-testOrder = 46
+entry k = getD exponentials k 0

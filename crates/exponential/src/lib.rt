@@ -1,40 +1,56 @@
 // exp(-y) in fixed point, never below it (document 01, "The exponential").
 ghost use mathlib.Core.Path.{_≡_};
-ghost use Prim.Native.Nat.{_<_, _≤_, _^_};
-ghost use Rattle.exponential.specs.Exponential.{innermost, middle, decrease, lowered, expUpper};
-ghost use Rattle.exponential.specs.Table.{entries};
+ghost use Prim.Native.Nat.{_*_, _-_, _<_, _≤_, _^_, min};
+ghost use Rattle.exponential.specs.Exponential.{halfSquare, thirdPart, decrease, lowered, expUpper};
+ghost use Rattle.exponential.specs.Table.{exponentials};
 
 mod values;
 
+// How many entries the table has: exp(-k/64) for k from 0 to 1536.
+pub const ENTRIES: usize = 1537;
+
+pub type Exponentials = [u64; ENTRIES];
+
 // The table. It is made once and lent from then on: a constant array is stored whole at each use.
-pub fn table() -> [u64; 1537]
-    ensures { λ r. ⌜ r ≡ entries ⌝ }
+pub fn table() -> Exponentials
+    ensures { λ r. ⌜ r ≡ exponentials ⌝ }
 {
     values::TABLE
 }
 
-// x/3 (1 - x/4), rounded down; x and the result in units of 2^-40.
-fn innermost_part(x: u64) -> u64
-    requires { ⌜ x < 2 ^ 34 ⌝ }
-    ensures { λ r. ⌜ r ≡ innermost x ⌝ }
+// 24 in units of 2^-38: the exponent of the last entry.
+const LAST: u64 = 6597069766656;
+
+// r²/2, rounded down; r in units of 2^-38, the result in units of 2^-40.
+fn half_square(r: u64) -> u64
+    requires { ⌜ r < 2 ^ 32 ⌝ }
+    ensures { λ s. ⌜ s ≡ halfSquare r ⌝ }
 {
-    fixed_point::small_product(x, 1099511627776 - x / 4) / 3
+    r * r / 137438953472
 }
 
-// x (1 - x/3 (1 - x/4)), rounded up.
-fn middle_part(x: u64) -> u64
-    requires { ⌜ x < 2 ^ 34 ⌝ }
-    ensures { λ r. ⌜ r ≡ middle x ⌝ }
+// r/3 (1 - r/4), rounded down, in units of 2^-32; s is r²/2.
+fn third_part(r: u64, s: u64) -> u64
+    requires { ⌜ (r < 2 ^ 32) × (s ≡ halfSquare r) ⌝ }
+    ensures { λ v. ⌜ v ≡ thirdPart r ⌝ }
 {
-    x - fixed_point::small_product(x, innermost_part(x))
+    (8 * r - s) * 178956970 / 274877906944
 }
 
-// x (1 - x/2 (1 - x/3 (1 - x/4))), rounded down: 1 - exp(-x) for x below one 64th.
-fn decrease_of(x: u64) -> u64
-    requires { ⌜ x < 2 ^ 34 ⌝ }
-    ensures { λ r. ⌜ r ≡ decrease x ⌝ }
+fn less_one(x: u64) -> u64
+    ensures { λ y. ⌜ y ≡ x - 1 ⌝ }
 {
-    fixed_point::small_product(x, 2199023255552 - middle_part(x)) / 2
+    if x < 1 { 0 } else { x - 1 }
+}
+
+// 1 - exp(-r) for r below one 64th, rounded down; r in units of 2^-38, the result in units of 2^-40.
+fn decrease_of(r: u64) -> u64
+    requires { ⌜ r < 2 ^ 32 ⌝ }
+    ensures { λ d. ⌜ (d ≡ decrease r) × (d < 2 ^ 34) ⌝ }
+{
+    let s = half_square(r);
+    let v = third_part(r, s);
+    less_one(4 * r - s + s * v / 4294967296)
 }
 
 // t (1 - d), rounded up.
@@ -45,15 +61,20 @@ fn lower(t: u64, d: u64) -> u64
     t - fixed_point::small_product(t, d)
 }
 
+// y, or 24 where y is larger: a choice and no branch.
+fn within(y: u64) -> u64
+    ensures { λ x. ⌜ x ≡ min y (1536 * 2 ^ 32) ⌝ }
+{
+    if LAST < y { LAST } else { y }
+}
+
 // At or above exp(-y), in units of 2^-40; y in units of 2^-38.
-pub fn exp_upper(y: u64, table: &[u64; 1537]) -> u64
-    requires { ⌜ now table ≡ entries ⌝ }
+pub fn exp_upper(y: u64, table: &Exponentials) -> u64
+    requires { ⌜ now table ≡ exponentials ⌝ }
     ensures { λ r. ⌜ r ≡ expUpper y ⌝ }
 {
-    if 6597069766656 <= y {
-        return table[1536];
-    }
-    let k = (y / 4294967296) as usize;
-    let remainder = y % 4294967296;
-    lower(table[k], decrease_of(4 * remainder))
+    let x = within(y);
+    let k = (x / 4294967296) as usize;
+    let remainder = x % 4294967296;
+    lower(table[k], decrease_of(remainder))
 }

@@ -1,5 +1,7 @@
 // The table of exp(-k/64) in units of 2^-40: entry k is the least whole number not below (specs/Table.antt).
-pub const TABLE: [u64; 1537] = [
+use crate::Exponentials;
+
+pub const TABLE: Exponentials = [
     1099511627776,
     1082465279992,
     1065683211334,

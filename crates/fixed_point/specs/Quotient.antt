@@ -1,4 +1,4 @@
--- Products and quotients of fixed-point numbers.
+-- Need not be believed: products and quotients of fixed-point numbers, as the code computes them.
 use Prim.Native.Nat.{ℕ, _+_, _*_, _/_, _%_, _^_}
 use Rattle.fixed_point.specs.declared.Division.{Division}
 

@@ -7,7 +7,8 @@ use native.Mathlib.Omega.{arith}
 use lib.Dec.{T, leb, ltb, leb→le}
 use lib.ListN.{length, getD}
 use Rattle.exact.specs.Choice.{pick}
-use Rattle.loan_charge.specs.CreditFactor.{hundredths, count, band, column, columnServing, builtInRates, scoredFactor, unscoredFactor, creditFactor, FactorInRange, RatesInRange}
+use Rattle.loan_charge.specs.CreditFactor.{hundredths, count, band, column, columnServing, builtInRates, scoredFactor, unscoredFactor}
+use Rattle.loan_charge.specs.CreditFactor.{creditFactor, FactorInRange, RatesInRange}
 use Rattle.loan_charge.specs.declared.Score.{Score}
 use Rattle.loan_charge.specs.declared.Score.the-variants.{Scored, Unscored}
 

@@ -13,7 +13,7 @@ use Rattle.exact.specs.Quantity.{Assignment}
 use Rattle.coefficients.specs.Coefficients.{Curve}
 use Rattle.loan_charge.specs.Charge.{valueRatio, gaussExponent, exponent1, exponent2, curveValue}
 use Rattle.coefficients.specs.declared.ScaledCurve.{ScaledCurve}
-use Rattle.coefficients.proofs.CoefficientLaws.{ScaledCurveOf}
+use Rattle.coefficients.specs.Promise.{ScaledCurveOf}
 use Rattle.loan_charge.proofs.Gauss.{exponentNum, exponentDen}
 use Rattle.loan_charge.proofs.Money.{limitedNum, rateNum, rateDen}
 
@@ -54,7 +54,8 @@ square a b = go (decLe b a)
             dropped : (a k : ℕ) → a - (a + k) + (a + k - a) ≡ k
             dropped a k = omega arith
 
-square-is : (a b o : ℕ) → record { plus = a; minus = b; over = o } ⊗ record { plus = a; minus = b; over = o } ≈ quotient ((a - b + (b - a)) * (a - b + (b - a))) (o * o)
+square-is : (a b o : ℕ) →
+    record { plus = a; minus = b; over = o } ⊗ record { plus = a; minus = b; over = o } ≈ quotient ((a - b + (b - a)) * (a - b + (b - a))) (o * o)
 square-is a b o = record { crossed = omega (arith, ap (λ (t : ℕ). t * (o * o)) (square a b)) }
 
 combined : (D q s : ℕ) → quotient D (120000 * q * (120000 * q)) ⊗ quotient (120000 * 120000) (2 * (s * s)) ≈ quotient D (2 * (s * q * (s * q)))
@@ -89,7 +90,8 @@ module _ {z mean deviation : Fraction} {P q i s : ℕ} (pz : Proper z) (sz : z �
   twice-is : whole 2 ⊗ (deviation ⊗ deviation) ≈ quotient (2 * (s * s)) (120000 * 120000)
   twice-is =
       Fractions.same-trans
-      (Fractions.proper-product {x = whole 2} {y = quotient s 120000 ⊗ quotient s 120000} (record { positive = omega arith }) (record { positive = omega arith }))
+      (Fractions.proper-product {x = whole 2} {y = quotient s 120000 ⊗ quotient s 120000} (record { positive = omega arith })
+      (record { positive = omega arith }))
       (Fractions.same-product {x′ = whole 2} (record { positive = omega arith }) (Fractions.proper-product pd pd) (Fractions.same-refl (whole 2))
       (Fractions.same-product {x′ = quotient s 120000} (record { positive = omega arith }) pd sd sd))
       (record { crossed = omega arith })
@@ -99,7 +101,8 @@ module _ {z mean deviation : Fraction} {P q i s : ℕ} (pz : Proper z) (sz : z �
 
   positive-twice : Positive (whole 2 ⊗ (deviation ⊗ deviation))
   positive-twice =
-      Fractions.positive-same {x = quotient (2 * (s * s)) (120000 * 120000)} (record { positive = omega arith }) twice-proper (Fractions.same-sym twice-is) positive-square
+      Fractions.positive-same {x = quotient (2 * (s * s)) (120000 * 120000)} (record { positive = omega arith }) twice-proper
+      (Fractions.same-sym twice-is) positive-square
 
   reciprocal-is : reciprocal (whole 2 ⊗ (deviation ⊗ deviation)) ≈ quotient (120000 * 120000) (2 * (s * s))
   reciprocal-is = rw (sub-zero (2 * (s * s))) at (Fractions.same-reciprocal positive-twice positive-square twice-is)
@@ -114,7 +117,8 @@ module _ {z mean deviation : Fraction} {P q i s : ℕ} (pz : Proper z) (sz : z �
     positive = exponent-den-pos;
     same =
         Fractions.same-trans
-        (Fractions.proper-product (Fractions.proper-quotient (exponentNum P q i) (mul-pos scale-pos scale-pos)) (Fractions.proper-quotient (120000 * 120000) (positive-square .above)))
+        (Fractions.proper-product (Fractions.proper-quotient (exponentNum P q i) (mul-pos scale-pos scale-pos))
+        (Fractions.proper-quotient (120000 * 120000) (positive-square .above)))
         (Fractions.same-product
         (Fractions.proper-quotient (exponentNum P q i) (mul-pos scale-pos scale-pos))
         (Fractions.proper-reciprocal positive-twice)
@@ -137,7 +141,8 @@ abbrev pub curveMinus : ScaledCurve → (N₁ D₁ N₂ D₂ : ℕ) → ℕ
 curveMinus c N₁ D₁ N₂ D₂ = c .minus2 * N₂ * D₁
 
 two-terms : (c p m N₁ D₁ N₂ D₂ : ℕ) →
-    quotient c 12 ⊗ quotient N₁ D₁ ⊕ record { plus = p; minus = m; over = 12 } ⊗ quotient N₂ D₂ ≈ record { plus = c * N₁ * D₂ + p * N₂ * D₁; minus = m * N₂ * D₁; over = 12 * (D₁ * D₂) }
+    quotient c 12 ⊗ quotient N₁ D₁ ⊕ record { plus = p; minus = m; over = 12 } ⊗ quotient N₂ D₂ ≈
+    record { plus = c * N₁ * D₂ + p * N₂ * D₁; minus = m * N₂ * D₁; over = 12 * (D₁ * D₂) }
 two-terms c p m N₁ D₁ N₂ D₂ = record { crossed = omega arith }
 
 module _ {w p m : ℕ} {curve : Curve} {s : ScaledCurve} (h : ScaledCurveOf w p m curve s) (z : Fraction) (exp : Assignment) {N₁ D₁ N₂ D₂ : ℕ}
@@ -153,7 +158,8 @@ module _ {w p m : ℕ} {curve : Curve} {s : ScaledCurve} (h : ScaledCurveOf w p 
       Fractions.same-trans
       (Fractions.proper-sum
       (Fractions.proper-product {x = quotient (s .weight1) 12} (record { positive = omega arith }) (Fractions.proper-quotient N₁ (v₁ .positive)))
-      (Fractions.proper-product {x = record { plus = s .plus2; minus = s .minus2; over = 12 }} (record { positive = omega arith }) (Fractions.proper-quotient N₂ (v₂ .positive))))
+      (Fractions.proper-product {x = record { plus = s .plus2; minus = s .minus2; over = 12 }} (record { positive = omega arith })
+      (Fractions.proper-quotient N₂ (v₂ .positive))))
       (Fractions.same-sum
       (Fractions.same-product (record { positive = omega arith }) (v₁ .proper) (h .weight1 .same) (v₁ .same))
       (Fractions.same-product (record { positive = omega arith }) (v₂ .proper) (h .weight2 .same) (v₂ .same)))
@@ -184,7 +190,8 @@ module _ {A B : Fraction} {a b d a' b' d' : ℕ} (pA : Proper A) (sA : A ≈ rec
   curves-is balance =
       Fractions.same-trans
       (Fractions.proper-sum {x = record { plus = a; minus = b; over = 12 * d }} (record { positive = omega arith })
-      (Fractions.proper-product {x = record { plus = a'; minus = b'; over = 12 * d' }} {y = quotient balance 10000000} (record { positive = omega arith }) (record { positive = omega arith })))
+      (Fractions.proper-product {x = record { plus = a'; minus = b'; over = 12 * d' }} {y = quotient balance 10000000}
+      (record { positive = omega arith }) (record { positive = omega arith })))
       (Fractions.same-sum sA (Fractions.same-product-left (quotient balance 10000000) sB))
       (both-curves a b d a' b' d' balance 10000000)
 
@@ -231,7 +238,8 @@ module _ {z C b v : Fraction} {P q c i N D : ℕ} (pz : Proper z) (sz : z ≈ qu
   unlimited-is : C ⊕ quotient 1 10 ⊗ (z ⊖ whole 1) ≈ quotient (c * 100 * q + 120000 * (P - q)) (1200000 * q)
   unlimited-is =
       Fractions.same-trans
-      (Fractions.proper-sum {x = quotient c 12000} {y = quotient 1 10 ⊗ (quotient P q ⊖ whole 1)} (record { positive = omega arith }) (record { positive = omega arith }))
+      (Fractions.proper-sum {x = quotient c 12000} {y = quotient 1 10 ⊗ (quotient P q ⊖ whole 1)} (record { positive = omega arith })
+      (record { positive = omega arith }))
       (Fractions.same-sum sC
       (Fractions.same-product {x′ = quotient 1 10} (record { positive = omega arith }) (Fractions.proper-sum pz (record { positive = omega arith }))
       (Fractions.same-refl (quotient 1 10))
@@ -244,8 +252,10 @@ module _ {z C b v : Fraction} {P q c i N D : ℕ} (pz : Proper z) (sz : z ≈ qu
   limited-is : smaller (C ⊕ quotient 1 10 ⊗ (z ⊖ whole 1)) (quotient 115 100) ≈ quotient (limitedNum P q c) (1200000 * q)
   limited-is =
       Fractions.same-trans
-      (Fractions.proper-smaller {x = quotient (c * 100 * q + 120000 * (P - q)) (1200000 * q)} {y = quotient (1380000 * q) (1200000 * q)} (record { positive = omega arith }) (record { positive = omega arith }))
-      (Fractions.same-smaller unlimited-proper (record { positive = omega arith }) (record { positive = omega arith }) (record { positive = omega arith }) unlimited-is
+      (Fractions.proper-smaller {x = quotient (c * 100 * q + 120000 * (P - q)) (1200000 * q)} {y = quotient (1380000 * q) (1200000 * q)}
+      (record { positive = omega arith }) (record { positive = omega arith }))
+      (Fractions.same-smaller unlimited-proper (record { positive = omega arith }) (record { positive = omega arith })
+      (record { positive = omega arith }) unlimited-is
       (record { crossed = omega arith }))
       (smaller-is (c * 100 * q + 120000 * (P - q)) (1380000 * q) (1200000 * q))
 
@@ -255,7 +265,8 @@ module _ {z C b v : Fraction} {P q c i N D : ℕ} (pz : Proper z) (sz : z ≈ qu
   pub rate-is : smaller (C ⊕ quotient 1 10 ⊗ (z ⊖ whole 1)) (quotient 115 100) ⊕ b ⊗ v ≈ quotient (rateNum P q c i N D) (rateDen q D)
   rate-is =
       Fractions.same-trans
-      (Fractions.proper-sum {x = quotient (limitedNum P q c) (1200000 * q)} {y = quotient i 10 ⊗ quotient N D} (record { positive = omega arith }) (record { positive = omega (arith, w .positive) }))
+      (Fractions.proper-sum {x = quotient (limitedNum P q c) (1200000 * q)} {y = quotient i 10 ⊗ quotient N D} (record { positive = omega arith })
+      (record { positive = omega (arith, w .positive) }))
       (Fractions.same-sum limited-is (Fractions.same-product {x′ = quotient i 10} (record { positive = omega arith }) (w .proper) sb (w .same)))
       (added (limitedNum P q c) (1200000 * q) i N D)
     where

@@ -5,7 +5,8 @@ use mathlib.Core.Logic.{_⊎_, inl, inr}
 use Prim.Native.Nat.{ℕ, _+_, _*_, _-_, _/_, _^_, _≤_, _<_}
 use native.Mathlib.Decide.{decLe}
 use native.Mathlib.Omega.{arith}
-use native.Mathlib.Nat.{div-le-of-le-mul, mul-le-mul, mul-le-mul-right, mul-le-mul-left, mul-pos, le-trans, lt-of-not-le, div-mul-le-self, lt-div-mul-add, le-div-iff-mul-le}
+use native.Mathlib.Nat.{div-le-of-le-mul, mul-le-mul, mul-le-mul-right, mul-le-mul-left, mul-pos, le-trans, lt-of-not-le, div-mul-le-self}
+use native.Mathlib.Nat.{lt-div-mul-add, le-div-iff-mul-le}
 use Rattle.exact.proofs.Sums.{num, den, num-pos, growing}
 use Rattle.exponential.specs.Exponential.{expUpper}
 use Rattle.exponential.proofs.Laws as Exponential
@@ -119,16 +120,16 @@ module _ {P q w : ℕ} (h : Held P q w) (mean σ : ℕ) (mean-most : mean ≤ 17
       let Q : 0 < σ * q = mul-pos {m = σ} (omega arith) (h .positive) in
       omega (arith, mul-pos Q Q)
 
-  pub gauss-near : Exponential.Near (expUpper (exponent w mean σ)) (exponentNum P q mean) (exponentDen q σ)
+  pub gauss-near : Exponential.NearExponential (expUpper (exponent w mean σ)) (exponentNum P q mean) (exponentDen q σ)
   gauss-near =
       Exponential.near (exponent w mean σ) (exponentNum P q mean) (exponentDen q σ) denominator-positive exponent-low exponent-high
 
 -- exp(-n / 120)
-pub months-near : (n : ℕ) → Exponential.Near (expUpper (n * 2 ^ 38 / 120)) n 120
+pub months-near : (n : ℕ) → Exponential.NearExponential (expUpper (n * 2 ^ 38 / 120)) n 120
 months-near n = Exponential.near (n * 2 ^ 38 / 120) n 120 (omega arith) (omega arith) (inl (omega arith))
 
 -- The value of an exponential, at every order from some order on.
-pub value-at : {u a d : ℕ} (h : Exponential.Near u a d) → 0 < d → (m : ℕ) → h .from ≤ m → Value u (den d m) (num a d m)
+pub value-at : {u a d : ℕ} (h : Exponential.NearExponential u a d) → 0 < d → (m : ℕ) → h .from ≤ m → Value u (den d m) (num a d m)
 unfolding num den
 value-at {u} {a} {d} h pos m l = record {
   positive = num-pos a d pos m;

@@ -1,9 +1,11 @@
 pub mod ChargeLaws
 pub mod CreditLaws
+pub mod Dependence
 pub mod ExactValues
 pub mod Examples
 pub mod Gauss
 pub mod Money
 pub mod Near
+pub mod Promise
 pub mod ScaledValue
 pub mod Sizes

@@ -1,24 +1,22 @@
 -- The money part: signed amounts, their sizes, and the enclosures of a loan's two numbers over natural numbers.
 -- Assumes nothing.
 use mathlib.Core.Path.{_≡_, refl, ap}
-use Prim.Native.Nat.{ℕ, _+_, _*_, _-_, _/_, _^_, _≤_, _<_, min}
+use Prim.Native.Nat.{ℕ, _+_, _*_, _-_, _/_, _%_, _^_, _≤_, _<_, min}
 use native.Mathlib.Decide.{decLe}
 use native.Mathlib.Omega.{arith}
-use native.Mathlib.Nat.{mul-le-mul, mul-le-mul-left, mul-le-mul-right, add-le-add, min-le-left, min-le-right, min-eq-left, min-eq-right, sub-add-cancel, le-of-lt, lt-of-not-le}
+use native.Mathlib.Nat.{mul-le-mul, mul-le-mul-left, mul-le-mul-right, add-le-add, min-le-left, min-le-right, min-eq-left, min-eq-right}
+use native.Mathlib.Nat.{sub-add-cancel, le-of-lt, lt-of-not-le}
 use Rattle.fixed_point.specs.Quotient.{scaledProduct}
 use Rattle.loan_charge.specs.declared.charge.Heights.{Heights}
 use Rattle.fixed_point.specs.declared.Signed.{Signed}
 use Rattle.coefficients.specs.declared.ScaledCurve.{ScaledCurve}
-use Rattle.loan_charge.specs.Computation.{unit, limit, limited, raised, lowered, weighted, factor, rate, sum, times, signed, roundedUp, roundedDown}
-use Rattle.loan_charge.proofs.Near.{Near, Floored, near-add, near-mul, near-equal, near-scale, near-self, near-widen}
+use Rattle.loan_charge.specs.Computation.{unit, limit, limited, totalPad, supplementPad, ceilingOffset, floorOffset, weighted, scaledSum}
+use Rattle.loan_charge.specs.Computation.{curvesSum, factor, rate, times, signed, roundedUp, roundedDown}
+use Rattle.loan_charge.proofs.Near.{Near, Floored, near-add, near-mul, near-equal, near-scale, near-widen, near-multiple, near-floor}
 use Rattle.loan_charge.proofs.ScaledValue.{Held}
 
 pub amounts : {a b c d : ℕ} → a ≡ c → b ≡ d → _≡_ {A = Signed} (record { plus = a; minus = b }) (record { plus = c; minus = d })
 amounts p q = λ i. record { plus = p i; minus = q i }
-
--- a weighted exponential is small enough to go on with
-pub term-bound : (k weight e : ℕ) → k ≤ 2 * 10 ^ 8 → weight ≤ 144240 → e ≤ 2 ^ 41 → scaledProduct (k * weight) e ≤ 2 ^ 46
-term-bound k weight e h₁ h₂ h₃ = omega (arith, mul-le-mul (mul-le-mul h₁ h₂) h₃)
 
 pub floored : (a b : ℕ) → Floored (2 ^ 40) a b (scaledProduct a b)
 floored a b = record { below = omega arith; above = omega arith }
@@ -29,21 +27,32 @@ pub record Value (u N D : ℕ) : Type 0 where
   pub most : N ≤ D
   pub near : Near u (2 ^ 40 * N) D 42 0
 
--- an exponential times a weight of at most A
-pub weight-near : {u N D : ℕ} (w A k : ℕ) → w ≤ A → A * 42 ≤ k * 2 ^ 40 → Value u N D → Near (scaledProduct w u) (w * N) D k 1
-weight-near {u} {N} {D} w A k h hk v =
-    near-equal
-    (near-widen k 1
-    (near-mul {s = 2 ^ 40} A 1 k 0 (omega arith) (floored w u) (near-self w) (v .near) h (omega (arith, v .most)) hk (omega arith))
-    (omega arith)
-    (omega arith))
-    refl
-    (omega arith)
+-- an exponential times a weight
+weight-near : {u N D : ℕ} (w : ℕ) → Value u N D → Near (w * u) (2 ^ 40 * (w * N)) D (w * 42) 0
+weight-near w v = record {
+  low = omega (arith, mul-le-mul-left w (v .near .low));
+  high = omega (arith, mul-le-mul-left w (v .near .high));
+}
+
+-- 10^7 x + k y in two parts: the products fit, and together they are the quotient
+
+pub high-part : (k y : ℕ) → k ≤ 2 * 10 ^ 8 → y ≤ 2 ^ 58 → k * (y / 1073741824) ≤ 2 * 10 ^ 8 * 2 ^ 28
+high-part k y h g = let l : y / 1073741824 ≤ 2 ^ 28 = omega arith in mul-le-mul h l
+
+pub low-part : (k y : ℕ) → k ≤ 2 * 10 ^ 8 → k * (y % 1073741824) ≤ 2 * 10 ^ 8 * 2 ^ 30
+low-part k y h = let l : y % 1073741824 ≤ 2 ^ 30 = omega arith in mul-le-mul h l
+
+pub parts-sum : (k x1 x0 y1 y0 x y : ℕ) → x ≡ x1 * 1073741824 + x0 → y ≡ y1 * 1073741824 + y0 →
+    (10000000 * x1 + k * y1 + (10000000 * x0 + k * y0) / 1073741824) / 1024 ≡ (10 ^ 7 * x + k * y) / 2 ^ 40
+parts-sum k x1 x0 y1 y0 x y p q = omega (arith, ap (λ (t : ℕ). k * t) q)
 
 -- Both sides of an amount are near fractions over one denominator.
 pub record Both (x : Signed) (np nm d αp βp αm βm : ℕ) : Type 0 where
   pub plus-near : Near (x .plus) np d αp βp
   pub minus-near : Near (x .minus) nm d αm βm
+
+abbrev pub sum : Signed → Signed → Signed
+sum x y = record { plus = x .plus + y .plus; minus = x .minus + y .minus }
 
 pub both-add : {x y : Signed} {np nm d αp βp αm βm np' nm' d' αp' βp' αm' βm' : ℕ} → Both x np nm d αp βp αm βm →
     Both y np' nm' d' αp' βp' αm' βm' →
@@ -54,14 +63,14 @@ both-add p q = record {
 }
 
 -- What the product by f, at most B, adds to the allowances: kp and lp on the side of at most P, km and lm on that of at most M.
-pub record Allowed (P M α β kp lp km lm : ℕ) : Type 0 where
+pub record ProductAllowance (P M α β kp lp km lm : ℕ) : Type 0 where
   pub plus-low : P * α ≤ kp * 2 ^ 40
   pub plus-high : P * β ≤ lp * 2 ^ 40
   pub minus-low : M * α ≤ km * 2 ^ 40
   pub minus-high : M * β ≤ lm * 2 ^ 40
 
 pub both-times : {x : Signed} {np nm d αp βp αm βm f fn fd α β : ℕ} (P M B kp lp km lm : ℕ) → Both x np nm d αp βp αm βm →
-    Near f (2 ^ 40 * fn) fd α β → x .plus ≤ P → x .minus ≤ M → fn ≤ B * fd → Allowed P M α β kp lp km lm →
+    Near f (2 ^ 40 * fn) fd α β → x .plus ≤ P → x .minus ≤ M → fn ≤ B * fd → ProductAllowance P M α β kp lp km lm →
     Both (times x f) (np * fn) (nm * fn) (d * fd) (B * αp + kp) (1 + B * βp + lp) (B * αm + km) (1 + B * βm + lm)
 unfolding times
 both-times {x} {f = f} P M B kp lp km lm b n hp hm hf a = record {
@@ -152,29 +161,38 @@ rate-most {e} {N} {D} P q c b hb v =
       mul-le-mul-right (1200000 * q) (mul-le-mul hb (v .most)),
     )
 
--- k (C1 e1 + C2 e2) over the product of the denominators; kP is the largest k C1 or k C2, kM the largest k of C2's minus part.
-module _ {N₁ D₁ N₂ D₂ : ℕ} (k : ℕ) (c : ScaledCurve) (h : Heights) (v₁ : Value (h .first) N₁ D₁) (v₂ : Value (h .second) N₂ D₂) where
-  pub weighted-near : (A₁ A₂ A₃ l₁ l₂ l₃ : ℕ) → k * c .weight1 ≤ A₁ → k * c .plus2 ≤ A₂ → k * c .minus2 ≤ A₃ →
-      A₁ * 42 ≤ l₁ * 2 ^ 40 → A₂ * 42 ≤ l₂ * 2 ^ 40 → A₃ * 42 ≤ l₃ * 2 ^ 40 →
-      Both (weighted k c h) (k * (c .weight1 * N₁ * D₂ + c .plus2 * N₂ * D₁)) (k * (c .minus2 * N₂ * D₁)) (D₁ * D₂) (l₁ + l₂) 2 l₃ 1
-  unfolding weighted
-  weighted-near A₁ A₂ A₃ l₁ l₂ l₃ h₁ h₂ h₃ a₁ a₂ a₃ = record {
-    plus-near =
-        near-equal
-        (near-add (weight-near (k * c .weight1) A₁ l₁ h₁ a₁ v₁) (weight-near (k * c .plus2) A₂ l₂ h₂ a₂ v₂))
-        (omega arith)
-        refl;
-    minus-near =
-        near-equal
-        (near-scale D₁ (weight-near _ A₃ l₃ (omega (arith, h₃)) a₃ v₂))
-        (omega arith)
-        (omega arith);
-  }
+-- C1 e1 + C2 e2 over the product of the denominators
+pub weighted-near : {N₁ D₁ N₂ D₂ : ℕ} (c : ScaledCurve) (h : Heights) → Value (h .first) N₁ D₁ → Value (h .second) N₂ D₂ →
+    Both (weighted c h) (2 ^ 40 * (c .weight1 * N₁ * D₂ + c .plus2 * N₂ * D₁)) (2 ^ 40 * (c .minus2 * N₂ * D₁)) (D₁ * D₂)
+    (c .weight1 * 42 + c .plus2 * 42) 0 (c .minus2 * 42) 0
+unfolding weighted
+weighted-near {N₁} {D₁} {N₂} {D₂} c h v₁ v₂ = record {
+  plus-near = near-equal (near-add (weight-near (c .weight1) v₁) (weight-near (c .plus2) v₂)) (omega arith) refl;
+  minus-near = near-equal (near-scale D₁ (weight-near (c .minus2) v₂)) (omega arith) (omega arith);
+}
+
+-- 10^7 x + k y, rounded down
+scaled-sum-near : {x d α y d' α' : ℕ} (k a n n' : ℕ) → 10 ^ 7 * α + k * α' ≤ a * 2 ^ 40 → Near x (2 ^ 40 * n) d α 0 → Near y (2 ^ 40 * n') d' α' 0 →
+    Near (scaledSum k x y) (10 ^ 7 * n * d' + k * n' * d) (d * d') a 1
+unfolding scaledSum
+scaled-sum-near {x} {d} {α} {y} {d'} {α'} k a n n' h p q =
+    near-floor (2 ^ 40) a ((10 ^ 7 * x + k * y) / 2 ^ 40) (omega arith) (omega arith) (omega arith) h
+    (near-equal
+    (near-widen (10 ^ 7 * α + k * α') 0 (near-add (near-multiple (10 ^ 7) p) (near-multiple k q)) (omega arith) (omega arith))
+    (omega arith)
+    refl)
+
+pub curves-near : {a b : Signed} {d αp αm d' αp' αm' : ℕ} (np nm np' nm' k lp lm : ℕ) →
+    10 ^ 7 * αp + k * αp' ≤ lp * 2 ^ 40 → 10 ^ 7 * αm + k * αm' ≤ lm * 2 ^ 40 →
+    Both a (2 ^ 40 * np) (2 ^ 40 * nm) d αp 0 αm 0 → Both b (2 ^ 40 * np') (2 ^ 40 * nm') d' αp' 0 αm' 0 →
+    Both (curvesSum k a b) (10 ^ 7 * np * d' + k * np' * d) (10 ^ 7 * nm * d' + k * nm' * d) (d * d') lp 1 lm 1
+unfolding curvesSum
+curves-near np nm np' nm' k lp lm hp hm x y = record {
+  plus-near = scaled-sum-near k lp np np' hp (x .plus-near) (y .plus-near);
+  minus-near = scaled-sum-near k lm nm nm' hm (x .minus-near) (y .minus-near);
+}
 
 -- Sizes.
-
-pub product-most : {a e : ℕ} (A E n : ℕ) → a ≤ A → e ≤ E → A * E < (n + 1) * 2 ^ 40 → scaledProduct a e ≤ n
-product-most A E n h k l = omega (arith, mul-le-mul h k)
 
 -- the largest whole numbers of a curve's weights
 pub record Weights (most-weight1 most-plus2 most-minus2 : ℕ) (c : ScaledCurve) : Type 0 where
@@ -182,89 +200,97 @@ pub record Weights (most-weight1 most-plus2 most-minus2 : ℕ) (c : ScaledCurve)
   pub plus2 : c .plus2 ≤ most-plus2
   pub minus2 : c .minus2 ≤ most-minus2
 
--- both exponentials are at most 1 and their error
-pub record Small (h : Heights) : Type 0 where
-  pub first : h .first ≤ 2 ^ 40 + 42
-  pub second : h .second ≤ 2 ^ 40 + 42
+-- both exponentials are at most 1
+pub record AtMostOne (h : Heights) : Type 0 where
+  pub first : h .first ≤ 2 ^ 40
+  pub second : h .second ≤ 2 ^ 40
 
-pub record AtMost (P M : ℕ) (x : Signed) : Type 0 where
+pub record SignedAtMost (P M : ℕ) (x : Signed) : Type 0 where
   pub plus : x .plus ≤ P
   pub minus : x .minus ≤ M
 
-pub weighted-most : {c : ScaledCurve} {h : Heights} (k K w₁ w₂ w₃ n₁ n₂ n₃ : ℕ) → k ≤ K → Weights w₁ w₂ w₃ c → Small h →
-    K * w₁ * (2 ^ 40 + 42) < (n₁ + 1) * 2 ^ 40 → K * w₂ * (2 ^ 40 + 42) < (n₂ + 1) * 2 ^ 40 →
-    K * w₃ * (2 ^ 40 + 42) < (n₃ + 1) * 2 ^ 40 → AtMost (n₁ + n₂) n₃ (weighted k c h)
+pub weighted-most : {c : ScaledCurve} {h : Heights} (w₁ w₂ w₃ : ℕ) → Weights w₁ w₂ w₃ c → AtMostOne h →
+    SignedAtMost (w₁ * 2 ^ 40 + w₂ * 2 ^ 40) (w₃ * 2 ^ 40) (weighted c h)
 unfolding weighted
-weighted-most {c} {h} k K w₁ w₂ w₃ n₁ n₂ n₃ hk w s f₁ f₂ f₃ =
-    let p₁ : scaledProduct (k * c .weight1) (h .first) ≤ n₁ =
-    product-most (K * w₁) (2 ^ 40 + 42) n₁ (mul-le-mul hk (w .weight1)) (s .first) f₁ in
-    let p₂ : scaledProduct (k * c .plus2) (h .second) ≤ n₂ =
-    product-most (K * w₂) (2 ^ 40 + 42) n₂ (mul-le-mul hk (w .plus2)) (s .second) f₂ in
-    let p₃ : scaledProduct (k * c .minus2) (h .second) ≤ n₃ =
-    product-most (K * w₃) (2 ^ 40 + 42) n₃ (mul-le-mul hk (w .minus2)) (s .second) f₃ in
-    record { plus = add-le-add p₁ p₂; minus = p₃ }
+weighted-most w₁ w₂ w₃ w s = record {
+  plus = add-le-add (mul-le-mul (w .weight1) (s .first)) (mul-le-mul (w .plus2) (s .second));
+  minus = mul-le-mul (w .minus2) (s .second);
+}
 
-pub times-most : {x : Signed} {f : ℕ} (P M k : ℕ) → AtMost P M x → f ≤ k * 2 ^ 40 → AtMost (P * k) (M * k) (times x f)
+scaled-sum-most : (k x y K X Y n : ℕ) → k ≤ K → x ≤ X → y ≤ Y → 10 ^ 7 * X + K * Y < (n + 1) * 2 ^ 40 → scaledSum k x y ≤ n
+unfolding scaledSum
+scaled-sum-most k x y K X Y n hk hx hy h = omega (arith, mul-le-mul hk hy)
+
+pub curves-most : {a b : Signed} (k K P M P' M' p m : ℕ) → k ≤ K → SignedAtMost P M a → SignedAtMost P' M' b →
+    10 ^ 7 * P + K * P' < (p + 1) * 2 ^ 40 → 10 ^ 7 * M + K * M' < (m + 1) * 2 ^ 40 → SignedAtMost p m (curvesSum k a b)
+unfolding curvesSum
+curves-most {a} {b} k K P M P' M' p m hk x y hp hm = record {
+  plus = scaled-sum-most k (a .plus) (b .plus) K P P' p hk (x .plus) (y .plus) hp;
+  minus = scaled-sum-most k (a .minus) (b .minus) K M M' m hk (x .minus) (y .minus) hm;
+}
+
+pub times-most : {x : Signed} {f : ℕ} (P M k : ℕ) → SignedAtMost P M x → f ≤ k * 2 ^ 40 → SignedAtMost (P * k) (M * k) (times x f)
 unfolding times
 times-most {x} {f} P M k h hf = record {
   plus = omega (arith, mul-le-mul (h .plus) hf);
   minus = omega (arith, mul-le-mul (h .minus) hf);
 }
 
--- From the enclosed sides to whole cents: over an offset of 100000 cents, in units of 1 / 1200000 cent.
-module _ (P M t np nm d rp rm αp βp αm βm : ℕ) (offset : rp + 100000 ≡ t + rm) (p : Near P np d αp βp) (m : Near M nm d αm βm) where
-  pub up-low : P + 120000000500 ≤ 1200000 * t + M → βp + αm ≤ 500 → np + rm * (1200000 * d) ≤ nm + rp * (1200000 * d)
+-- From the enclosed sides to whole cents: over an offset of 100000 cents, in units of 1 / 1200000 cent. The pad covers the errors on one side,
+-- and with those on the other it stays below a twentieth of a cent.
+module _ (P M t np nm d rp rm αp βp αm βm pad : ℕ) (offset : rp + 100000 ≡ t + rm) (p : Near P np d αp βp) (m : Near M nm d αm βm) where
+  up-low : P + 120000000000 + pad ≤ 1200000 * t + M → βp + αm ≤ pad → np + rm * (1200000 * d) ≤ nm + rp * (1200000 * d)
   up-low h a =
       omega
       (arith, mul-le-mul-right d h, mul-le-mul-right d a, p .high, m .low, ap (λ (x : ℕ). x * d) offset)
 
-  pub up-high : 1200000 * t + M ≤ P + 120001200499 → αp + βm ≤ 59500 → 0 < d →
+  up-high : 1200000 * t + M ≤ P + 120000000000 + pad + 1199999 → αp + βm + pad ≤ 60000 → 0 < d →
       rp * (1200000 * d) + nm < np + rm * (1200000 * d) + 1260000 * d
   up-high h a pos =
       omega
       (arith, mul-le-mul-right d h, mul-le-mul-right d a, p .low, m .high, ap (λ (x : ℕ). x * d) offset)
 
-  pub down-high : 1200000 * t + M ≤ P + 119999989000 → αp + βm ≤ 11000 → nm + rp * (1200000 * d) ≤ np + rm * (1200000 * d)
+  down-high : 1200000 * t + M + pad ≤ P + 120000000000 → αp + βm ≤ pad → nm + rp * (1200000 * d) ≤ np + rm * (1200000 * d)
   down-high h a =
       omega
       (arith, mul-le-mul-right d h, mul-le-mul-right d a, p .low, m .high, ap (λ (x : ℕ). x * d) offset)
 
-  pub down-low : P + 119999989000 < 1200000 * t + M + 1200000 → βp + αm ≤ 48000 → 0 < d →
+  down-low : P + 120000000000 < 1200000 * t + M + 1200000 + pad → βp + αm + pad ≤ 60000 → 0 < d →
       np + rm * (1200000 * d) < nm + rp * (1200000 * d) + 1260000 * d
   down-low h a pos =
       omega
       (arith, mul-le-mul-right d h, mul-le-mul-right d a, p .high, m .low, ap (λ (x : ℕ). x * d) offset)
 
 -- the exact amount (np - nm) / (1200000 d) is at most r, and r exceeds it by less than 1.05
-pub record Above (r : Signed) (np nm d : ℕ) : Type 0 where
+pub record CentsAbove (r : Signed) (np nm d : ℕ) : Type 0 where
   pub low : np + r .minus * (1200000 * d) ≤ nm + r .plus * (1200000 * d)
   pub high : r .plus * (1200000 * d) + nm < np + r .minus * (1200000 * d) + 1260000 * d
 
 -- r is at most the exact amount, and less than 1.05 below it
-pub record Below (r : Signed) (np nm d : ℕ) : Type 0 where
+pub record CentsBelow (r : Signed) (np nm d : ℕ) : Type 0 where
   pub high : nm + r .plus * (1200000 * d) ≤ np + r .minus * (1200000 * d)
   pub low : np + r .minus * (1200000 * d) < nm + r .plus * (1200000 * d) + 1260000 * d
 
 pub rounded-above : {np nm d αp βp αm βm : ℕ} (x y : Signed) → Both (sum x y) np nm d αp βp αm βm → x .minus + y .minus ≤ 120000000000 →
-    βp + αm ≤ 500 → αp + βm ≤ 59500 → 0 < d → Above (roundedUp x y) np nm d
+    βp + αm ≤ totalPad → αp + βm + totalPad ≤ 60000 → 0 < d → CentsAbove (roundedUp x y) np nm d
 unfolding roundedUp signed
 rounded-above {np} {nm} {d} {αp} {βp} {αm} {βm} x y b h a a' pos =
     let P : ℕ = x .plus + y .plus in
     let M : ℕ = x .minus + y .minus in
-    let t : ℕ = (P + raised - M) / 1200000 in
+    let t : ℕ = (P + ceilingOffset - M) / 1200000 in
     record {
-      low = up-low P M t np nm d (t - 100000) (100000 - t) αp βp αm βm (omega arith) (b .plus-near) (b .minus-near) (omega arith) a;
-      high = up-high P M t np nm d (t - 100000) (100000 - t) αp βp αm βm (omega arith) (b .plus-near) (b .minus-near) (omega arith) a' pos;
+      low = up-low P M t np nm d (t - 100000) (100000 - t) αp βp αm βm totalPad (omega arith) (b .plus-near) (b .minus-near) (omega arith) a;
+      high = up-high P M t np nm d (t - 100000) (100000 - t) αp βp αm βm totalPad (omega arith) (b .plus-near) (b .minus-near) (omega arith) a' pos;
     }
 
-pub rounded-below : {np nm d αp βp αm βm : ℕ} (x : Signed) → Both x np nm d αp βp αm βm → x .minus ≤ 119999989000 →
-    αp + βm ≤ 11000 → βp + αm ≤ 48000 → 0 < d → Below (roundedDown x) np nm d
+pub rounded-below : {np nm d αp βp αm βm : ℕ} (x : Signed) → Both x np nm d αp βp αm βm → x .minus ≤ floorOffset →
+    αp + βm ≤ supplementPad → βp + αm + supplementPad ≤ 60000 → 0 < d → CentsBelow (roundedDown x) np nm d
 unfolding roundedDown signed
 rounded-below {np} {nm} {d} {αp} {βp} {αm} {βm} x b h a a' pos =
     let P : ℕ = x .plus in
     let M : ℕ = x .minus in
-    let t : ℕ = (P + lowered - M) / 1200000 in
+    let t : ℕ = (P + floorOffset - M) / 1200000 in
     record {
-      high = down-high P M t np nm d (t - 100000) (100000 - t) αp βp αm βm (omega arith) (b .plus-near) (b .minus-near) (omega arith) a;
-      low = down-low P M t np nm d (t - 100000) (100000 - t) αp βp αm βm (omega arith) (b .plus-near) (b .minus-near) (omega arith) a' pos;
+      high = down-high P M t np nm d (t - 100000) (100000 - t) αp βp αm βm supplementPad (omega arith) (b .plus-near) (b .minus-near) (omega arith) a;
+      low = down-low P M t np nm d (t - 100000) (100000 - t) αp βp αm βm supplementPad (omega arith) (b .plus-near) (b .minus-near) (omega arith) a' pos;
     }

@@ -115,5 +115,16 @@ near-scale {v} {n} {d} {α} {β} j p = record {
   high = omega (arith, mul-le-mul-right j (p .high));
 }
 
-pub near-self : (w : ℕ) → Near w w 1 0 0
-near-self w = record { low = omega arith; high = omega arith }
+-- so many times
+pub near-multiple : {v n d α β : ℕ} (k : ℕ) → Near v n d α β → Near (k * v) (k * n) d (k * α) (k * β)
+near-multiple {v} {n} {d} {α} {β} k p = record {
+  low = omega (arith, mul-le-mul-left k (p .low));
+  high = omega (arith, mul-le-mul-left k (p .high));
+}
+
+-- in units s times as large, rounded down
+pub near-floor : {v n d α : ℕ} (s a c : ℕ) → 0 < s → c * s ≤ v → v ≤ (c + 1) * s → α ≤ a * s → Near v (s * n) d α 0 → Near c n d a 1
+near-floor {v} {n} {d} {α} s a c pos below above h p = record {
+  low = le-of-mul-le-mul-left {k = s} (omega (arith, mul-le-mul-right d below, mul-le-mul-right d h, p .low)) pos;
+  high = le-of-mul-le-mul-left {k = s} (omega (arith, mul-le-mul-right d above, p .high)) pos;
+}

@@ -4,7 +4,9 @@ use mathlib.Core.Path.{_≡_, sym, _∙_, ap, ap₂, subst⁻¹}
 use Prim.Native.Nat.{ℕ, _+_, _*_, _/_, _%_, _^_, _≤_, _<_, min, max, zero-le}
 use native.Mathlib.Decide.{decLe}
 use native.Mathlib.Omega.{arith}
-use native.Mathlib.Nat.{mul-le-mul-left, mul-le-mul-right, le-of-mul-le-mul-right, le-trans, lt-of-le-of-lt, le-of-lt, mul-div-cancel, max-eq-left, max-eq-right, min-eq-left, min-eq-right, div-eq-of-lt-le, le-div-iff-mul-le, div-lt-iff-lt-mul, div-add-mod', div-mul-le-self, lt-div-mul-add, le-max-right, mul-div-mul-right, mul-comm, min-le-right, lt-of-not-le}
+use native.Mathlib.Nat.{mul-le-mul-left, mul-le-mul-right, le-of-mul-le-mul-right, le-trans, lt-of-le-of-lt, le-of-lt, max-eq-left, max-eq-right}
+use native.Mathlib.Nat.{min-eq-left, min-eq-right, div-eq-of-lt-le, le-div-iff-mul-le, div-lt-iff-lt-mul, div-add-mod', div-mul-le-self}
+use native.Mathlib.Nat.{lt-div-mul-add, mod-lt, le-max-right, mul-div-mul-right, mul-comm, min-le-right, lt-of-not-le}
 use Rattle.fixed_point.specs.Quotient.{divisionStep}
 use Rattle.fixed_point.specs.declared.Division.{Division}
 use Rattle.fixed_point.proofs.Laws.{step-whole, step-remainder}
@@ -39,7 +41,7 @@ step-fits {F} {p} {q} {d} f h k divisor-fits fits f-fits =
 pub quotient-is : {F p q : ℕ} {d : Division} → Divided F p q d → d .quotient ≡ F * p / q
 quotient-is {F} {p} {q} {d} h = sym (div-eq-of-lt-le q (omega (arith, h .whole)) (omega (arith, h .whole, h .small)))
 
--- A division begun, and carried on by the factors 400, 300 and three times 512, or by 120000 and 2^27.
+-- A division begun, and carried on by the factors 400, 300 and three times 512.
 
 pub begun : (q : ℕ) (d : Division) → d .remainder < q → Divided 1 (d .quotient * q + d .remainder) q d
 begun q d h = record { whole = omega arith; small = h }
@@ -66,9 +68,14 @@ pub step₅ : {P q : ℕ} {d d₁ d₂ d₃ d₄ d₅ : Division} → Divided 1 
     d₃ ≡ divisionStep d₂ q 512 → d₄ ≡ divisionStep d₃ q 512 → d₅ ≡ divisionStep d₄ q 512 → Divided unit P q d₅
 step₅ h e₁ e₂ e₃ e₄ e₅ = divided-step 512 (step₄ h e₁ e₂ e₃ e₄) e₅
 
-pub short-step : {P q : ℕ} {d d₁ d₂ : Division} → Divided 1 P q d → d₁ ≡ divisionStep d q 120000 → d₂ ≡ divisionStep d₁ q 134217728 →
-    Divided unit P q d₂
-short-step h e₁ e₂ = divided-step 134217728 (divided-step 120000 h e₁) e₂
+-- A division of 120000 p, carried on by 2^27.
+
+pub multiplied : (p q : ℕ) → 0 < q → Divided 120000 p q (record { quotient = p * 120000 / q; remainder = p * 120000 % q })
+multiplied p q h = record { whole = div-add-mod' (p * 120000) q ∙ mul-comm p 120000; small = mod-lt (p * 120000) h }
+
+pub multiplied-step : (p q : ℕ) {d : Division} → 0 < q →
+    d ≡ divisionStep (record { quotient = p * 120000 / q; remainder = p * 120000 % q }) q 134217728 → d .quotient ≡ unit * p / q
+multiplied-step p q pos e = quotient-is (divided-step 134217728 (multiplied p q pos) e)
 
 -- The three cases of the value.
 
@@ -79,17 +86,21 @@ pub value-least : (p q : ℕ) → p < q → unit ≡ scaledValue p q
 unfolding scaledValue
 value-least p q h = held-is unit (div-eq-of-lt-le q (omega arith) (omega arith)) (omega arith)
 
-pub value-most : (p q : ℕ) → 0 < q → q ≤ p → 16 ≤ p / q → 16 * unit ≡ scaledValue p q
+pub value-most : (p q : ℕ) → 0 < q → 16 * q ≤ p → 16 * unit ≡ scaledValue p q
 unfolding scaledValue
-value-most p q pos h k =
-    sym (min-eq-left (le-div-iff-mul-le pos .1 (omega (arith, mul-le-mul-right q k, div-mul-le-self p q))))
+value-most p q pos h = rw (max-eq-left {n = p} {m = q} (omega arith)) (sym (min-eq-left (le-div-iff-mul-le pos .1 (omega arith))))
 
-pub value-between : (p q r : ℕ) → 0 < q → q ≤ p → p / q < 16 → r ≡ unit * (p / q * q + p % q) / q → r ≡ scaledValue p q
+pub value-between : (p q r : ℕ) → 0 < q → q ≤ p → p < 16 * q → r ≡ unit * p / q → r ≡ scaledValue p q
 unfolding scaledValue
 value-between p q r pos h k e =
-    rw (max-eq-left h)
-    (e ∙ ap (λ (t : ℕ). unit * t / q) (div-add-mod' p q) ∙
-    sym (min-eq-right (le-of-lt (div-lt-iff-lt-mul pos .1 (omega (arith, div-lt-iff-lt-mul pos .0 k))))))
+    rw (max-eq-left h) (e ∙ sym (min-eq-right (le-of-lt (div-lt-iff-lt-mul pos .1 (omega arith)))))
+
+-- the same by the whole part of p / q
+pub whole-most : (p q : ℕ) → 0 < q → 16 ≤ p / q → 16 * unit ≡ scaledValue p q
+whole-most p q pos k = value-most p q pos (omega (arith, mul-le-mul-right q k, div-mul-le-self p q))
+
+pub whole-between : (p q r : ℕ) → 0 < q → q ≤ p → p / q < 16 → r ≡ unit * (p / q * q + p % q) / q → r ≡ scaledValue p q
+whole-between p q r pos h k e = value-between p q r pos h (div-lt-iff-lt-mul pos .0 k) (e ∙ ap (λ (t : ℕ). unit * t / q) (div-add-mod' p q))
 
 -- The enclosure: p / q, not below 1, in fixed point as w. Above 16 there is no upper bound.
 pub record Held (p q w : ℕ) : Type 0 where

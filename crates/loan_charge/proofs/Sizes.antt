@@ -7,15 +7,19 @@ use native.Mathlib.Omega.{arith}
 use native.Mathlib.Nat.{mul-le-mul, le-trans}
 use Rattle.exponential.specs.Exponential.{expUpper}
 use Rattle.exponential.proofs.Laws as Exponential
-use Rattle.coefficients.specs.Coefficients.{Curve}
-use Rattle.coefficients.specs.Integers.{Months, scaledA, scaledB, scaledC, tenthsB}
-use Rattle.loan_charge.specs.Computation.{scaleA, exponent, height, heights, Usable, weighted, factor, rate, sum, times, baseUnits, rateUnits}
+use Rattle.coefficients.specs.Coefficients.{Curve, firstSet, Months}
+use Rattle.coefficients.specs.Integers.{scaledA, scaledB, scaledC, tenthsB}
+use Rattle.loan_charge.specs.Computation.{exponent, height, heights, Usable, curveUnits, curvesSum, factor, rate, times, ratioUnits, aUnits}
+use Rattle.loan_charge.specs.Computation.{bUnits, baseUnits, rateUnits}
+use Rattle.loan_charge.specs.Charge.{Chargeable}
+use Rattle.loan_charge.specs.declared.LoanInputs.{LoanInputs}
 use Rattle.coefficients.specs.declared.ScaledCurve.{ScaledCurve}
 use Rattle.loan_charge.specs.declared.charge.Heights.{Heights}
 use Rattle.loan_charge.specs.declared.charge.LoanCharge.{LoanCharge}
 use Rattle.fixed_point.specs.declared.Signed.{Signed}
-use Rattle.coefficients.proofs.CoefficientLaws.{ScaledCurveOf, scaled-a, scaled-b, tenths-b}
-use Rattle.loan_charge.proofs.Money.{Weights, Small, AtMost, weighted-most, times-most}
+use Rattle.coefficients.specs.Promise.{ScaledCurveOf}
+use Rattle.coefficients.proofs.CoefficientLaws.{scaled-a, scaled-b, tenths-b}
+use Rattle.loan_charge.proofs.Money.{Weights, AtMostOne, SignedAtMost, weighted-most, curves-most, times-most}
 
 -- Equal values have equal parts.
 
@@ -48,52 +52,56 @@ usable-a first {n} h = usable (scaled-a n h first) (omega arith) (omega arith) (
 pub usable-b : (first : Bool) {n : ℕ} → Months n → Usable (scaledB first n)
 usable-b first {n} h = usable (scaled-b n h first) (omega arith) (omega arith) (omega arith)
 
-pub heights-small : (w : ℕ) (c : ScaledCurve) → Small (heights w c)
+pub heights-small : (w : ℕ) (c : ScaledCurve) → AtMostOne (heights w c)
 unfolding heights height
 heights-small w c = record {
-  first = omega (arith, Exponential.bounded (exponent w (c .mean1) (c .deviation1)));
-  second = omega (arith, Exponential.bounded (exponent w (c .mean2) (c .deviation2)));
+  first = Exponential.bounded (exponent w (c .mean1) (c .deviation1));
+  second = Exponential.bounded (exponent w (c .mean2) (c .deviation2));
 }
 
-pub weighted-a-most : (first : Bool) (w : ℕ) {n : ℕ} → Months n →
-    AtMost (298560000011 + 459600000017) 9050000000 (weighted scaleA (scaledA first n) (heights w (scaledA first n)))
-weighted-a-most first w {n} h =
-    weighted-most scaleA (10 ^ 7) 29856 45960 905 298560000011 459600000017 9050000000 (omega arith)
-    (weights (scaled-a n h first)) (heights-small w (scaledA first n)) (omega arith) (omega arith) (omega arith)
+pub curve-most : {w p m : ℕ} {curve : Curve} {s : ScaledCurve} → ScaledCurveOf w p m curve s → (z : ℕ) →
+    SignedAtMost (w * 2 ^ 40 + p * 2 ^ 40) (m * 2 ^ 40) (curveUnits z s)
+unfolding curveUnits
+curve-most {w} {p} {m} {s = s} h z = weighted-most w p m (weights h) (heights-small z s)
 
-pub weighted-b-most : (first : Bool) (w k : ℕ) {n : ℕ} → Months n → k ≤ 2 * 10 ^ 8 →
-    AtMost (28848000001101 + 10128000000386) 0 (weighted k (scaledB first n) (heights w (scaledB first n)))
-weighted-b-most first w k {n} h hk =
-    weighted-most k (2 * 10 ^ 8) 144240 50640 0 28848000001101 10128000000386 0 hk
-    (weights (scaled-b n h first)) (heights-small w (scaledB first n)) (omega arith) (omega arith) (omega arith)
-
--- A and B together
-pub sum-most : (first : Bool) (w k : ℕ) {n : ℕ} → Months n → k ≤ 2 * 10 ^ 8 →
-    AtMost 39735000000000 9050000000
-    (sum (weighted scaleA (scaledA first n) (heights w (scaledA first n))) (weighted k (scaledB first n) (heights w (scaledB first n))))
-sum-most first w k h hk =
-    let a = weighted-a-most first w h in
-    let b = weighted-b-most first w k h hk in
-    record { plus = omega arith; minus = omega arith }
+pub months-in : {l : LoanInputs} → Chargeable l → Months (l .months)
+months-in c = record { least = c .months-least; most = c .months-most }
 
 pub factor-most : (m : ℕ) → m ≤ 3 * 10 ^ 17 → factor m ≤ 3 * 2 ^ 40
 unfolding factor
 factor-most m h = omega arith
 
-pub base-most : (first : Bool) (w k n m : ℕ) → Months n → k ≤ 2 * 10 ^ 8 → m ≤ 3 * 10 ^ 17 →
-    AtMost 119205000000000 27150000000 (baseUnits first w k n m)
-unfolding baseUnits
-base-most first w k n m h hk hm = times-most 39735000000000 9050000000 3 (sum-most first w k h hk) (factor-most m hm)
+module _ (l : LoanInputs) (c : Chargeable l) where
+  pub a-most : SignedAtMost (75816 * 2 ^ 40) (905 * 2 ^ 40) (aUnits l)
+  unfolding aUnits
+  a-most = let h = curve-most (scaled-a (l .months) (months-in c) (firstSet (l .term))) (ratioUnits l)
+      in record { plus = omega (arith, h .plus); minus = h .minus }
+
+  pub b-most : SignedAtMost (194880 * 2 ^ 40) 0 (bUnits l)
+  unfolding bUnits
+  b-most = let h = curve-most (scaled-b (l .months) (months-in c) (firstSet (l .term))) (ratioUnits l)
+      in record { plus = omega (arith, h .plus); minus = omega (arith, h .minus) }
+
+  -- A and B together
+  pub sum-most : SignedAtMost 39735000000000 9050000000 (curvesSum (l .balance) (aUnits l) (bUnits l))
+  sum-most =
+      curves-most (l .balance) (2 * 10 ^ 8) (75816 * 2 ^ 40) (905 * 2 ^ 40) (194880 * 2 ^ 40) 0 39735000000000 9050000000 (c .balance-most) a-most b-most
+      (omega arith) (omega arith)
+
+  pub base-most : SignedAtMost 119205000000000 27150000000 (baseUnits l)
+  unfolding baseUnits
+  base-most = times-most 39735000000000 9050000000 3 sum-most (factor-most (l .factor) (c .factor-most))
 
 pub rate-bound : (w c b e : ℕ) → b ≤ 3 → e ≤ 2 ^ 40 → rate w c b e ≤ 2 * 2 ^ 40
 unfolding rate
 rate-bound w c b e hb he = omega (arith, mul-le-mul hb he)
 
-pub rate-units-most : (first : Bool) (w n : ℕ) → Months n → rateUnits first w n ≤ 2 * 2 ^ 40
+pub rate-units-most : (l : LoanInputs) → Chargeable l → rateUnits l ≤ 2 * 2 ^ 40
 unfolding rateUnits
-rate-units-most first w n h =
-    rate-bound w (scaledC first n) (tenthsB first n) (expUpper (n * 2 ^ 38 / 120)) (tenths-b n h first .most) (Exponential.bounded (n * 2 ^ 38 / 120))
+rate-units-most l c =
+    rate-bound (ratioUnits l) (scaledC (firstSet (l .term)) (l .months)) (tenthsB (firstSet (l .term)) (l .months)) (expUpper (l .months * 2 ^ 38 / 120))
+    (tenths-b (l .months) (months-in c) (firstSet (l .term)) .most) (Exponential.bounded (l .months * 2 ^ 38 / 120))
 
-pub supplement-most : {x : Signed} {r : ℕ} → AtMost 119205000000000 27150000000 x → r ≤ 2 * 2 ^ 40 →
-    AtMost 238410000000000 54300000000 (times x r)
+pub supplement-most : {x : Signed} {r : ℕ} → SignedAtMost 119205000000000 27150000000 x → r ≤ 2 * 2 ^ 40 →
+    SignedAtMost 238410000000000 54300000000 (times x r)
 supplement-most h k = times-most 119205000000000 27150000000 2 h k

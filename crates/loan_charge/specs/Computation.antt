@@ -1,11 +1,12 @@
--- A loan's two numbers in fixed point, as the code computes them. No other crate unfolds these definitions:
--- what they promise stands in proofs/ChargeLaws.antt.
+-- Need not be believed: Promise.antt says how far these numbers are from the exact ones. A loan's two numbers in fixed point, as the code
+-- computes them. No other crate unfolds these definitions.
 use Prim.Native.Nat.{ℕ, _+_, _*_, _-_, _/_, _^_, _≤_, _<_, min, max}
 use mathlib.Core.Bool.{Bool, true, false}
 use Rattle.fixed_point.specs.Quotient.{scaledProduct}
 use Rattle.exponential.specs.Exponential.{expUpper}
 use Rattle.coefficients.specs.Coefficients.{firstSet}
 use Rattle.coefficients.specs.Integers.{scaledA, scaledB, scaledC, tenthsB}
+use Rattle.loan_charge.specs.declared.LoanInputs.{LoanInputs}
 use Rattle.loan_charge.specs.declared.charge.Heights.{Heights}
 use Rattle.loan_charge.specs.declared.charge.LoanCharge.{LoanCharge}
 use Rattle.fixed_point.specs.declared.Signed.{Signed}
@@ -48,12 +49,24 @@ pub record Usable (c : ScaledCurve) : Type 0 where
   pub deviation1 : 8192 ≤ c .deviation1
   pub deviation2 : 8192 ≤ c .deviation2
 
--- k (C1 e1 + C2 e2) of a curve, its exponentials in units of 2^-40
-unfoldable pub weighted : ℕ → ScaledCurve → Heights → Signed
-weighted k c h = record {
-  plus = scaledProduct (k * c .weight1) (h .first) + scaledProduct (k * c .plus2) (h .second);
-  minus = scaledProduct (k * c .minus2) (h .second);
+-- C1 e1 + C2 e2 of a curve in 12ths, its exponentials and the sum in units of 2^-40
+unfoldable pub weighted : ScaledCurve → Heights → Signed
+weighted c h = record {
+  plus = c .weight1 * h .first + c .plus2 * h .second;
+  minus = c .minus2 * h .second;
 }
+
+-- the curve at z
+unfoldable pub curveUnits : ℕ → ScaledCurve → Signed
+curveUnits w c = weighted c (heights w c)
+
+-- 10^7 x + k y, for x and y in units of 2^-40, rounded down
+unfoldable pub scaledSum : (k x y : ℕ) → ℕ
+scaledSum k x y = (10 ^ 7 * x + k * y) / 2 ^ 40
+
+-- the same of both sides
+unfoldable pub curvesSum : ℕ → Signed → Signed → Signed
+curvesSum k a b = record { plus = scaledSum k (a .plus) (b .plus); minus = scaledSum k (a .minus) (b .minus) }
 
 -- m, given in 10^-17, in units of 2^-40
 unfoldable pub factor : ℕ → ℕ
@@ -70,9 +83,6 @@ limited w c = min (c * 100 * 2 ^ 27 + (w - unit)) limit
 unfoldable pub rate : ℕ → ℕ → ℕ → ℕ → ℕ
 rate w c b e = limited w c * 8192 / 1200000 + b * e / 10
 
-abbrev pub sum : Signed → Signed → Signed
-sum x y = record { plus = x .plus + y .plus; minus = x .minus + y .minus }
-
 -- both sides times a number in units of 2^-40
 unfoldable pub times : Signed → ℕ → Signed
 times x f = record { plus = scaledProduct (x .plus) f; minus = scaledProduct (x .minus) f }
@@ -81,57 +91,56 @@ times x f = record { plus = scaledProduct (x .plus) f; minus = scaledProduct (x 
 unfoldable pub signed : ℕ → Signed
 signed t = record { plus = t - 100000; minus = 100000 - t }
 
--- What is added before rounding: the offset, with what covers all errors, on the side of the rounding.
-abbrev pub raised : ℕ
-raised = 100000 * 1200000 + 500 + 1199999
+-- What covers all errors, in these units: of the total, which must not fall below, and of the supplement, which must not rise above.
+abbrev pub totalPad : ℕ
+totalPad = 500
 
-abbrev pub lowered : ℕ
-lowered = 100000 * 1200000 - 11000
+abbrev pub supplementPad : ℕ
+supplementPad = 11000
+
+-- What is added before rounding: the offset, with the pad on the side of the rounding.
+abbrev pub ceilingOffset : ℕ
+ceilingOffset = 100000 * 1200000 + totalPad + 1199999
+
+abbrev pub floorOffset : ℕ
+floorOffset = 100000 * 1200000 - supplementPad
 
 -- two amounts together in cents, rounded up
 unfoldable pub roundedUp : Signed → Signed → Signed
-roundedUp x y = signed ((x .plus + y .plus + raised - (x .minus + y .minus)) / 1200000)
+roundedUp x y = signed ((x .plus + y .plus + ceilingOffset - (x .minus + y .minus)) / 1200000)
 
 -- an amount in cents, rounded down
 unfoldable pub roundedDown : Signed → Signed
-roundedDown x = signed ((x .plus + lowered - x .minus) / 1200000)
+roundedDown x = signed ((x .plus + floorOffset - x .minus) / 1200000)
 
--- The base: A counts this many times and B by the balance in cents, both in 12ths.
-abbrev pub scaleA : ℕ
-scaleA = 10 ^ 7
+-- z of a loan
+abbrev pub ratioUnits : LoanInputs → ℕ
+ratioUnits l = scaledValue (l .value) (l .over)
 
-unfoldable pub baseUnits : Bool → ℕ → ℕ → ℕ → ℕ → Signed
-baseUnits first w balance months m =
-    times
-    (sum
-    (weighted scaleA (scaledA first months) (heights w (scaledA first months)))
-    (weighted balance (scaledB first months) (heights w (scaledB first months))))
-    (factor m)
+-- A and B of a loan
+unfoldable pub aUnits : LoanInputs → Signed
+aUnits l = curveUnits (ratioUnits l) (scaledA (firstSet (l .term)) (l .months))
+
+unfoldable pub bUnits : LoanInputs → Signed
+bUnits l = curveUnits (ratioUnits l) (scaledB (firstSet (l .term)) (l .months))
+
+-- The base: A counts 10^7 times and B by the balance in cents, both in 12ths.
+unfoldable pub baseUnits : LoanInputs → Signed
+baseUnits l = times (curvesSum (l .balance) (aUnits l) (bUnits l)) (factor (l .factor))
 
 -- r of the supplement
-unfoldable pub rateUnits : Bool → ℕ → ℕ → ℕ
-rateUnits first w months = rate w (scaledC first months) (tenthsB first months) (expUpper (months * 2 ^ 38 / 120))
+unfoldable pub rateUnits : LoanInputs → ℕ
+rateUnits l =
+    rate (ratioUnits l) (scaledC (firstSet (l .term)) (l .months)) (tenthsB (firstSet (l .term)) (l .months)) (expUpper (l .months * 2 ^ 38 / 120))
 
-abbrev pub none : Signed
-none = record { plus = 0; minus = 0 }
+abbrev pub zeroAmount : Signed
+zeroAmount = record { plus = 0; minus = 0 }
 
 -- both numbers from the base and r, with a supplement or without
 unfoldable pub chargeFrom : Bool → Signed → ℕ → LoanCharge
 chargeFrom true base r = record { total = roundedUp base (times base r); supplement = roundedDown (times base r) }
-chargeFrom false base r = record { total = roundedUp base none; supplement = none }
+chargeFrom false base r = record { total = roundedUp base zeroAmount; supplement = zeroAmount }
 
--- A loan's two numbers: its base plus supplement, and its supplement, in cents. Value over balance is p / q, m is in 10^-17.
-unfoldable pub chargeOf : (p q balance months term : ℕ) (supplement : Bool) (m : ℕ) → LoanCharge
-chargeOf p q balance months term supplement m =
-    chargeFrom supplement
-    (baseUnits (firstSet term) (scaledValue p q) balance months m)
-    (rateUnits (firstSet term) (scaledValue p q) months)
-
--- the numbers of a loan for which this is a charge
-pub record Chargeable (q balance months m : ℕ) : Type 0 where
-  pub divisor-least : 1 ≤ q
-  pub divisor-most : q ≤ 2 * 10 ^ 16
-  pub balance-most : balance ≤ 2 * 10 ^ 8
-  pub months-least : 1 ≤ months
-  pub months-most : months ≤ 480
-  pub factor-most : m ≤ 3 * 10 ^ 17
+-- A loan's two numbers: its base plus supplement, and its supplement, in cents.
+unfoldable pub chargeOf : LoanInputs → LoanCharge
+chargeOf l = chargeFrom (l .supplement) (baseUnits l) (rateUnits l)

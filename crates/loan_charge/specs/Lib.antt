@@ -1,4 +1,6 @@
 pub mod Charge
 pub mod Computation
 pub mod CreditFactor
+pub mod Examples
+pub mod Promise
 pub mod Tables

@@ -2,11 +2,13 @@
 ghost use mathlib.Core.Path.{_≡_};
 ghost use Prim.Native.Nat.{_+_, _*_, _/_, _^_, _<_, _≤_, min};
 ghost use mathlib.Core.Bool.{true, false};
-ghost use Rattle.exponential.specs.Table.{entries};
 ghost use Rattle.loan_charge.specs.Tables.{exponentials};
 ghost use Rattle.fixed_point.specs.Quotient.{scaledProduct};
-ghost use Rattle.loan_charge.specs.Computation.{unit, scaledValue, distance, deviations, exponent, height, heights, Usable, weighted, factor, rate, sum, times, signed, roundedUp, roundedDown, baseUnits, rateUnits, chargeFrom, chargeOf, Chargeable};
-ghost use Rattle.coefficients.specs.Integers.{Months};
+ghost use Rattle.loan_charge.specs.Charge.{Chargeable};
+ghost use Rattle.loan_charge.specs.Computation.{unit, scaledValue, ratioUnits, distance, deviations, exponent, height, heights, Usable};
+ghost use Rattle.loan_charge.specs.Computation.{weighted, scaledSum, curvesSum, curveUnits, aUnits, bUnits, factor, rate, times, signed};
+ghost use Rattle.loan_charge.specs.Computation.{roundedUp, roundedDown, baseUnits, rateUnits, chargeFrom, chargeOf};
+use crate::LoanInputs;
 use coefficients::ScaledCurve;
 use coefficients::curve_a;
 use coefficients::curve_b;
@@ -17,6 +19,9 @@ use fixed_point::Division;
 use fixed_point::Signed;
 use fixed_point::division_step;
 use fixed_point::scaled_product;
+
+// The exponential's table, under a name for the layers above.
+pub type Exponentials = exponential::Exponentials;
 
 // A loan's base plus supplement, and its supplement, in cents.
 pub struct LoanCharge {
@@ -30,7 +35,28 @@ struct Heights {
     second: u64,
 }
 
+// 1 in the units in which z is carried, 1 / (120000 × 2^27).
 const UNIT: u64 = 16106127360000;
+
+// 1.15 in units ten times finer: the limit of a.
+const LIMIT: u64 = 185220464640000;
+
+// A counts so many times, where B counts by the balance in cents.
+const SCALE_A: u64 = 10000000;
+
+// 5^17: 10^17 is this times 2^17.
+const FIVES: u64 = 762939453125;
+
+// A cent in the units in which money is carried.
+const CENT: u64 = 1200000;
+
+// Numbers are made over an offset of so many cents.
+const OFFSET: u64 = 100000;
+
+// The offset with what covers all errors and what rounds up; and less what covers all errors.
+const CEILING_OFFSET: u64 = 120001200499;
+
+const FLOOR_OFFSET: u64 = 119999989000;
 
 // A long division carried on by five more steps, whose factors together are UNIT.
 fn refine(d: Division, q: u64) -> u64
@@ -45,14 +71,37 @@ fn refine(d: Division, q: u64) -> u64
     d5.quotient
 }
 
-// The same in two steps, where the divisor leaves room for their factors.
-fn refine_short(d: Division, q: u64) -> u64
-    requires { ⌜ (d .quotient < 16) × (d .remainder < q) × (q < 2 ^ 36) ⌝ }
-    ensures { λ r. ⌜ r ≡ unit * (d .quotient * q + d .remainder) / q ⌝ }
+// z of a divisor that leaves room for larger steps: 120000 p fits, so one more step is enough.
+fn short_value(p: u64, q: u64) -> u64
+    requires { ⌜ (0 < q) × (q ≤ p) × (q < 2 ^ 36) ⌝ }
+    ensures { λ r. ⌜ r ≡ scaledValue p q ⌝ }
 {
-    let d1 = division_step(d, q, 120000);
-    let d2 = division_step(d1, q, 134217728);
-    d2.quotient
+    if 16 * q <= p {
+        return 16 * UNIT;
+    }
+    let n = p * 120000;
+    let d = Division {
+        quotient: n / q,
+        remainder: n % q,
+    };
+    let last = division_step(d, q, 134217728);
+    last.quotient
+}
+
+// z of any divisor.
+fn long_value(p: u64, q: u64) -> u64
+    requires { ⌜ (0 < q) × (q ≤ p) × (q ≤ 2 * 10 ^ 16) ⌝ }
+    ensures { λ r. ⌜ r ≡ scaledValue p q ⌝ }
+{
+    let z = p / q;
+    if 16 <= z {
+        return 16 * UNIT;
+    }
+    let d = Division {
+        quotient: z,
+        remainder: p % q,
+    };
+    refine(d, q)
 }
 
 // z = p / q within 1 and 16, in units of 1 / UNIT.
@@ -63,18 +112,10 @@ fn scaled_value(p: u64, q: u64) -> u64
     if p < q {
         return UNIT;
     }
-    let z = p / q;
-    if 16 <= z {
-        return 16 * UNIT;
-    }
-    let d = Division {
-        quotient: z,
-        remainder: p % q,
-    };
     if q < 68719476736 {
-        refine_short(d, q)
+        short_value(p, q)
     } else {
-        refine(d, q)
+        long_value(p, q)
     }
 }
 
@@ -105,58 +146,82 @@ fn exponent_of(w: u64, mean: u64, deviation: u64) -> u64
 }
 
 // exp(-(z - mean)² / (2 deviation²)), never below it.
-fn height_of(w: u64, mean: u64, deviation: u64, table: &[u64; 1537]) -> u64
-    requires { ⌜ (w ≤ 16 * unit) × (mean < 2 ^ 20) × (8192 ≤ deviation) × (now table ≡ entries) ⌝ }
+fn height_of(w: u64, mean: u64, deviation: u64, exps: &Exponentials) -> u64
+    requires { ⌜ (w ≤ 16 * unit) × (mean < 2 ^ 20) × (8192 ≤ deviation) × (now exps ≡ exponentials) ⌝ }
     ensures { λ r. ⌜ r ≡ height w mean deviation ⌝ }
 {
-    exponential::exp_upper(exponent_of(w, mean, deviation), table)
+    exponential::exp_upper(exponent_of(w, mean, deviation), exps)
 }
 
-fn heights_of(w: u64, c: ScaledCurve, table: &[u64; 1537]) -> Heights
-    requires { ⌜ (w ≤ 16 * unit) × Usable c × (now table ≡ entries) ⌝ }
+fn heights_of(w: u64, c: ScaledCurve, exps: &Exponentials) -> Heights
+    requires { ⌜ (w ≤ 16 * unit) × Usable c × (now exps ≡ exponentials) ⌝ }
     ensures { λ r. ⌜ r ≡ heights w c ⌝ }
 {
     Heights {
-        first: height_of(w, c.mean1, c.deviation1, table),
-        second: height_of(w, c.mean2, c.deviation2, table),
+        first: height_of(w, c.mean1, c.deviation1, exps),
+        second: height_of(w, c.mean2, c.deviation2, exps),
     }
 }
 
-// One term of the sum below.
-fn weighted_term(k: u64, weight: u64, e: u64) -> u64
-    requires { ⌜ (k ≤ 2 * 10 ^ 8) × (weight ≤ 144240) × (e ≤ 2 ^ 41) ⌝ }
-    ensures { λ r. ⌜ r ≡ scaledProduct (k * weight) e ⌝ }
-{
-    scaled_product(k * weight, e)
-}
-
-// k (C1 e1 + C2 e2) of a curve.
-fn weighted_by(k: u64, c: ScaledCurve, h: Heights) -> Signed
-    requires { ⌜ (k ≤ 2 * 10 ^ 8) × (c .weight1 ≤ 144240) × (c .plus2 ≤ 50640) × (c .minus2 ≤ 50640) × (h .first ≤ 2 ^ 41) × (h .second ≤ 2 ^ 41) ⌝ }
-    ensures { λ r. ⌜ r ≡ weighted k c h ⌝ }
+// C1 e1 + C2 e2 of a curve.
+fn weigh(c: ScaledCurve, h: Heights) -> Signed
+    requires { ⌜ Usable c × (h .first ≤ 2 ^ 40) × (h .second ≤ 2 ^ 40) ⌝ }
+    ensures { λ r. ⌜ r ≡ weighted c h ⌝ }
 {
     Signed {
-        plus: weighted_term(k, c.weight1, h.first) + weighted_term(k, c.plus2, h.second),
-        minus: weighted_term(k, c.minus2, h.second),
+        plus: c.weight1 * h.first + c.plus2 * h.second,
+        minus: c.minus2 * h.second,
     }
 }
 
-fn sum_of(x: Signed, y: Signed) -> Signed
-    requires { ⌜ (x .plus < 2 ^ 51) × (y .plus < 2 ^ 51) × (x .minus < 2 ^ 51) × (y .minus < 2 ^ 51) ⌝ }
-    ensures { λ r. ⌜ r ≡ sum x y ⌝ }
+// A curve at z.
+fn curve_units(w: u64, c: ScaledCurve, exps: &Exponentials) -> Signed
+    requires { ⌜ (w ≤ 16 * unit) × Usable c × (now exps ≡ exponentials) ⌝ }
+    ensures { λ r. ⌜ r ≡ curveUnits w c ⌝ }
+{
+    weigh(c, heights_of(w, c, exps))
+}
+
+fn a_units(l: LoanInputs, w: u64, exps: &Exponentials) -> Signed
+    requires { ⌜ Chargeable l × (w ≡ ratioUnits l) × (now exps ≡ exponentials) ⌝ }
+    ensures { λ r. ⌜ r ≡ aUnits l ⌝ }
+{
+    curve_units(w, curve_a(first_set(l.term), l.months), exps)
+}
+
+fn b_units(l: LoanInputs, w: u64, exps: &Exponentials) -> Signed
+    requires { ⌜ Chargeable l × (w ≡ ratioUnits l) × (now exps ≡ exponentials) ⌝ }
+    ensures { λ r. ⌜ r ≡ bUnits l ⌝ }
+{
+    curve_units(w, curve_b(first_set(l.term), l.months), exps)
+}
+
+// 10^7 x + k y, for x and y in units of 2^-40: of two parts each, so that no product passes 64 bits.
+fn scaled_sum(k: u64, x: u64, y: u64) -> u64
+    requires { ⌜ (k ≤ 2 * 10 ^ 8) × (x ≤ 2 ^ 58) × (y ≤ 2 ^ 58) ⌝ }
+    ensures { λ r. ⌜ r ≡ scaledSum k x y ⌝ }
+{
+    let high = SCALE_A * (x / 1073741824) + k * (y / 1073741824);
+    let low = SCALE_A * (x % 1073741824) + k * (y % 1073741824);
+    (high + low / 1073741824) / 1024
+}
+
+// The same, where x and y are mostly 0.
+fn rare_sum(k: u64, x: u64, y: u64) -> u64
+    requires { ⌜ (k ≤ 2 * 10 ^ 8) × (x ≤ 2 ^ 58) × (y ≤ 2 ^ 58) ⌝ }
+    ensures { λ r. ⌜ r ≡ scaledSum k x y ⌝ }
+{
+    if x + y == 0 { 0 } else { scaled_sum(k, x, y) }
+}
+
+fn curves_sum(k: u64, a: Signed, b: Signed) -> Signed
+    requires { ⌜ (k ≤ 2 * 10 ^ 8) × (a .plus ≤ 2 ^ 58) × (a .minus ≤ 2 ^ 58) × (b .plus ≤ 2 ^ 58) × (b .minus ≤ 2 ^ 58) ⌝ }
+    ensures { λ r. ⌜ r ≡ curvesSum k a b ⌝ }
 {
     Signed {
-        plus: x.plus + y.plus,
-        minus: x.minus + y.minus,
+        plus: scaled_sum(k, a.plus, b.plus),
+        minus: rare_sum(k, a.minus, b.minus),
     }
-}
-
-// k times the curve at z.
-fn curve_units(k: u64, w: u64, c: ScaledCurve, table: &[u64; 1537]) -> Signed
-    requires { ⌜ (k ≤ 2 * 10 ^ 8) × (w ≤ 16 * unit) × Usable c × (now table ≡ entries) ⌝ }
-    ensures { λ r. ⌜ r ≡ weighted k c (heights w c) ⌝ }
-{
-    weighted_by(k, c, heights_of(w, c, table))
 }
 
 // m, given in 10^-17, in units of 2^-40: by 2^23 / 5^17, which is the same and fits.
@@ -164,7 +229,7 @@ fn factor_of(m: u64) -> u64
     requires { ⌜ m ≤ 3 * 10 ^ 17 ⌝ }
     ensures { λ r. ⌜ r ≡ factor m ⌝ }
 {
-    m / 762939453125 * 8388608 + m % 762939453125 * 8388608 / 762939453125
+    m / FIVES * 8388608 + m % FIVES * 8388608 / FIVES
 }
 
 fn smaller(x: u64, limit: u64) -> u64
@@ -178,8 +243,16 @@ fn rate_of(w: u64, c: u64, b: u64, e: u64) -> u64
     requires { ⌜ (unit ≤ w) × (w ≤ 16 * unit) × (c ≤ 2280) × (b ≤ 3) × (e ≤ 2 ^ 41) ⌝ }
     ensures { λ r. ⌜ r ≡ rate w c b e ⌝ }
 {
-    let a = smaller(c * 13421772800 + (w - UNIT), 185220464640000);
+    let a = smaller(c * 13421772800 + (w - UNIT), LIMIT);
     a * 8192 / 1200000 + b * e / 10
+}
+
+// A product whose first factor is mostly 0.
+fn rare_product(a: u64, b: u64) -> u64
+    requires { ⌜ (a < 2 ^ 51) × (b < 2 ^ 51) ⌝ }
+    ensures { λ r. ⌜ r ≡ scaledProduct a b ⌝ }
+{
+    if a == 0 { 0 } else { scaled_product(a, b) }
 }
 
 fn times_rate(x: Signed, f: u64) -> Signed
@@ -188,7 +261,7 @@ fn times_rate(x: Signed, f: u64) -> Signed
 {
     Signed {
         plus: scaled_product(x.plus, f),
-        minus: scaled_product(x.minus, f),
+        minus: rare_product(x.minus, f),
     }
 }
 
@@ -196,14 +269,14 @@ fn times_rate(x: Signed, f: u64) -> Signed
 fn without_offset(t: u64) -> Signed
     ensures { λ r. ⌜ r ≡ signed t ⌝ }
 {
-    if t < 100000 {
+    if t < OFFSET {
         Signed {
             plus: 0,
-            minus: 100000 - t,
+            minus: OFFSET - t,
         }
     } else {
         Signed {
-            plus: t - 100000,
+            plus: t - OFFSET,
             minus: 0,
         }
     }
@@ -214,7 +287,7 @@ fn rounded_up(x: Signed, y: Signed) -> Signed
     requires { ⌜ (x .plus < 2 ^ 51) × (y .plus < 2 ^ 51) × (x .minus + y .minus ≤ 120000000000) ⌝ }
     ensures { λ r. ⌜ r ≡ roundedUp x y ⌝ }
 {
-    without_offset((x.plus + y.plus + 120001200499 - (x.minus + y.minus)) / 1200000)
+    without_offset((x.plus + y.plus + CEILING_OFFSET - (x.minus + y.minus)) / CENT)
 }
 
 // An amount in cents, rounded down.
@@ -222,26 +295,27 @@ fn rounded_down(x: Signed) -> Signed
     requires { ⌜ (x .plus < 2 ^ 51) × (x .minus ≤ 119999989000) ⌝ }
     ensures { λ r. ⌜ r ≡ roundedDown x ⌝ }
 {
-    without_offset((x.plus + 119999989000 - x.minus) / 1200000)
+    without_offset((x.plus + FLOOR_OFFSET - x.minus) / CENT)
 }
 
-// The base: A counts 10^7 times and B by the balance in cents, both in 12ths.
-fn base_units(first: bool, w: u64, balance: u64, months: u64, m: u64, table: &[u64; 1537]) -> Signed
-    requires { ⌜ (w ≤ 16 * unit) × (balance ≤ 2 * 10 ^ 8) × Months months × (m ≤ 3 * 10 ^ 17) × (now table ≡ entries) ⌝ }
-    ensures { λ r. ⌜ r ≡ baseUnits first w balance months m ⌝ }
+// The base.
+fn base_units(l: LoanInputs, w: u64, exps: &Exponentials) -> Signed
+    requires { ⌜ Chargeable l × (w ≡ ratioUnits l) × (now exps ≡ exponentials) ⌝ }
+    ensures { λ r. ⌜ r ≡ baseUnits l ⌝ }
 {
-    let a = curve_units(10000000, w, curve_a(first, months), table);
-    let b = curve_units(balance, w, curve_b(first, months), table);
-    times_rate(sum_of(a, b), factor_of(m))
+    let a = a_units(l, w, exps);
+    let b = b_units(l, w, exps);
+    times_rate(curves_sum(l.balance, a, b), factor_of(l.factor))
 }
 
 // r of the supplement.
-fn rate_units(first: bool, w: u64, months: u64, table: &[u64; 1537]) -> u64
-    requires { ⌜ (unit ≤ w) × (w ≤ 16 * unit) × Months months × (now table ≡ entries) ⌝ }
-    ensures { λ r. ⌜ r ≡ rateUnits first w months ⌝ }
+fn rate_units(l: LoanInputs, w: u64, exps: &Exponentials) -> u64
+    requires { ⌜ Chargeable l × (w ≡ ratioUnits l) × (now exps ≡ exponentials) ⌝ }
+    ensures { λ r. ⌜ r ≡ rateUnits l ⌝ }
 {
-    let e = exponential::exp_upper(months * 274877906944 / 120, table);
-    rate_of(w, rate_c(first, months), rate_b(first, months), e)
+    let first = first_set(l.term);
+    let e = exponential::exp_upper(l.months * 274877906944 / 120, exps);
+    rate_of(w, rate_c(first, l.months), rate_b(first, l.months), e)
 }
 
 fn with_supplement(base: Signed, r: u64) -> LoanCharge
@@ -266,31 +340,21 @@ fn without_supplement(base: Signed) -> LoanCharge
 }
 
 // The exponential's table, to be made once and lent to `charge`.
-pub fn table() -> [u64; 1537]
+pub fn table() -> Exponentials
     ensures { λ r. ⌜ r ≡ exponentials ⌝ }
 {
     exponential::table()
 }
 
-// A loan's two numbers, for value over balance p / q and m in 10^-17.
-pub fn charge(
-    p: u64,
-    q: u64,
-    balance: u64,
-    months: u64,
-    term: u64,
-    supplement: bool,
-    m: u64,
-    table: &[u64; 1537],
-) -> LoanCharge
-    requires { ⌜ Chargeable q balance months m × (now table ≡ entries) ⌝ }
-    ensures { λ r. ⌜ r ≡ chargeOf p q balance months term supplement m ⌝ }
+// A loan's two numbers.
+pub fn charge(l: LoanInputs, exps: &Exponentials) -> LoanCharge
+    requires { ⌜ Chargeable l × (now exps ≡ exponentials) ⌝ }
+    ensures { λ r. ⌜ r ≡ chargeOf l ⌝ }
 {
-    let w = scaled_value(p, q);
-    let first = first_set(term);
-    let base = base_units(first, w, balance, months, m, table);
-    if supplement {
-        with_supplement(base, rate_units(first, w, months, table))
+    let w = scaled_value(l.value, l.over);
+    let base = base_units(l, w, exps);
+    if l.supplement {
+        with_supplement(base, rate_units(l, w, exps))
     } else {
         without_supplement(base)
     }

@@ -6,8 +6,13 @@ ghost use lib.Dec.{leb};
 ghost use Rattle.exact.specs.Choice.{pick};
 ghost use Rattle.loan_charge.specs.CreditFactor.{band, column, columnServing, builtInRates, scoredFactor, unscoredFactor, creditFactor};
 
+// How many rates a table has: eleven bands of scores, six ages each.
+pub const RATES: usize = 66;
+
+pub type Rates = [u64; RATES];
+
 // The regulator's table: eleven bands of scores, six ages each. It is made once and lent, since a constant array would be stored at every use.
-pub fn rates() -> [u64; 66]
+pub fn rates() -> Rates
     ensures { λ r. ⌜ r ≡ builtInRates ⌝ }
 {
     [
@@ -114,7 +119,7 @@ fn column_serving(aged: bool, age: u64) -> usize
     if aged { column(age) } else { 0 }
 }
 
-fn scored_factor(rates: &[u64; 66], aged: bool, number: u64, age: u64) -> u64
+fn scored_factor(rates: &Rates, aged: bool, number: u64, age: u64) -> u64
     ensures { λ r. ⌜ r ≡ scoredFactor (now (rates .entry)) aged number age ⌝ }
 {
     let at = band(number) * 6 + column_serving(aged, age);
@@ -133,7 +138,7 @@ fn unscored_factor(loans: u64, unscored: u64) -> u64
 }
 
 // The factor of a score, by the lent table of rates.
-pub fn credit_factor(score: Score, aged: bool, loans: u64, unscored: u64, rates: &[u64; 66]) -> u64
+pub fn credit_factor(score: Score, aged: bool, loans: u64, unscored: u64, rates: &Rates) -> u64
     ensures { λ r. ⌜ r ≡ creditFactor (now (rates .entry)) aged loans unscored score ⌝ }
 {
     match score {

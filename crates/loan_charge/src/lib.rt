@@ -7,3 +7,15 @@ pub enum Score {
     Scored { number: u64, age: u64 },
     Unscored,
 }
+
+// What a loan's charge is computed from: value over balance as the fraction value / over, the balance in cents, the remaining
+// amortization and the insurance term in months, whether the supplement applies, and m in 10^-17.
+pub struct LoanInputs {
+    pub value: u64,
+    pub over: u64,
+    pub balance: u64,
+    pub months: u64,
+    pub term: u64,
+    pub supplement: bool,
+    pub factor: u64,
+}

@@ -1,11 +1,12 @@
 // Tries the exponential on the cases of standard input, `y least greatest` to a line, and prints each answer that
 // lies outside.
 ghost use mathlib.Core.Path.{_≡_};
-ghost use Prim.Native.Nat.{_+_, _<_, _≤_};
+ghost use Prim.Native.Nat.{_<_, _≤_};
 ghost use lib.ListN.{length};
-ghost use Rattle.exponential.specs.Table.{entries};
+ghost use Rattle.exponential.specs.Table.{exponentials};
 use cases::Tally;
 use cases::Tried;
+use exponential::Exponentials;
 
 // The tally so far, and whether the input goes on.
 struct Block {
@@ -21,8 +22,8 @@ fn print_outside(y: u64, got: u64) {
     io::write_all(1, b"\n");
 }
 
-fn is_within(y: u64, least: u64, greatest: u64, table: &[u64; 1537]) -> bool
-    requires { ⌜ now table ≡ entries ⌝ }
+fn is_within(y: u64, least: u64, greatest: u64, table: &Exponentials) -> bool
+    requires { ⌜ now table ≡ exponentials ⌝ }
 {
     let got = exponential::exp_upper(y, table);
     let ok = (least <= got) & (got <= greatest);
@@ -32,8 +33,8 @@ fn is_within(y: u64, least: u64, greatest: u64, table: &[u64; 1537]) -> bool
     ok
 }
 
-fn try_case(s: &[u8], at: usize, table: &[u64; 1537]) -> Tried
-    requires { ⌜ (at < length (now s)) × (now table ≡ entries) ⌝ }
+fn try_case(s: &[u8], at: usize, table: &Exponentials) -> Tried
+    requires { ⌜ (at < length (now s)) × (now table ≡ exponentials) ⌝ }
     ensures { λ r. ⌜ (at < r .next) × (r .next ≤ length (now (s .entry))) ⌝ }
 {
     let y = cases::number_at(s, at);
@@ -46,8 +47,8 @@ fn try_case(s: &[u8], at: usize, table: &[u64; 1537]) -> Tried
 }
 
 // The cases of one block of the input.
-fn try_cases(s: &[u8], before: Tally, table: &[u64; 1537]) -> Tally
-    requires { ⌜ now table ≡ entries ⌝ }
+fn try_cases(s: &[u8], before: Tally, table: &Exponentials) -> Tally
+    requires { ⌜ now table ≡ exponentials ⌝ }
 {
     let mut tally = before;
     let mut at = 0;
@@ -60,8 +61,8 @@ fn try_cases(s: &[u8], before: Tally, table: &[u64; 1537]) -> Tally
 }
 
 // Reads a block, which holds whole lines, and tries its cases.
-fn try_block(before: Block, table: &[u64; 1537]) -> Block
-    requires { ⌜ now table ≡ entries ⌝ }
+fn try_block(before: Block, table: &Exponentials) -> Block
+    requires { ⌜ now table ≡ exponentials ⌝ }
 {
     let mut buf = io::large_buffer();
     let input = cases::read_input(&mut buf);
@@ -76,8 +77,8 @@ fn try_block(before: Block, table: &[u64; 1537]) -> Block
 }
 
 // The blocks of the input. Nothing says that it ends, so their number is counted down from one that no run uses up.
-fn try_all(table: &[u64; 1537]) -> Tally
-    requires { ⌜ now table ≡ entries ⌝ }
+fn try_all(table: &Exponentials) -> Tally
+    requires { ⌜ now table ≡ exponentials ⌝ }
 {
     let mut block = Block {
         more: true,

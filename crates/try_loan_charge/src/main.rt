@@ -3,7 +3,7 @@
 // 1 p q balance months term sup m, and the range of the total and of the supplement
 // 2 scored number age aged loans unscored, and m
 ghost use mathlib.Core.Path.{_≡_};
-ghost use Prim.Native.Nat.{_+_, _<_, _≤_};
+ghost use Prim.Native.Nat.{_<_, _≤_};
 ghost use lib.ListN.{length};
 ghost use Rattle.loan_charge.specs.Tables.{exponentials};
 use cases::Number;
@@ -11,8 +11,11 @@ use cases::Range;
 use cases::Tally;
 use cases::Tried;
 use fixed_point::Signed;
+use loan_charge::LoanInputs;
 use loan_charge::Score;
+use loan_charge::charge::Exponentials;
 use loan_charge::charge::LoanCharge;
+use loan_charge::credit::Rates;
 
 // The tally so far, and whether the input goes on.
 struct Block {
@@ -22,13 +25,7 @@ struct Block {
 
 // The loan of a case, and the position after it.
 struct Loan {
-    p: u64,
-    q: u64,
-    balance: u64,
-    months: u64,
-    term: u64,
-    sup: bool,
-    m: u64,
+    inputs: LoanInputs,
     next: Number,
 }
 
@@ -56,13 +53,15 @@ fn read_loan(s: &[u8], before: Number) -> Loan
     let sup = cases::next_number(s, term);
     let m = cases::next_number(s, sup);
     Loan {
-        p: p.value,
-        q: q.value,
-        balance: balance.value,
-        months: months.value,
-        term: term.value,
-        sup: sup.value == 1,
-        m: m.value,
+        inputs: LoanInputs {
+            value: p.value,
+            over: q.value,
+            balance: balance.value,
+            months: months.value,
+            term: term.value,
+            supplement: sup.value == 1,
+            factor: m.value,
+        },
         next: m,
     }
 }
@@ -81,37 +80,28 @@ fn refused() -> LoanCharge {
     }
 }
 
-fn charge_of(
-    p: u64,
-    q: u64,
-    balance: u64,
-    months: u64,
-    term: u64,
-    sup: bool,
-    m: u64,
-    table: &[u64; 1537],
-) -> LoanCharge
+fn charge_of(l: LoanInputs, table: &Exponentials) -> LoanCharge
     requires { ⌜ now table ≡ exponentials ⌝ }
 {
-    if q < 1 {
+    if l.over < 1 {
         return refused();
     }
-    if 20000000000000000 < q {
+    if 20000000000000000 < l.over {
         return refused();
     }
-    if 200000000 < balance {
+    if 200000000 < l.balance {
         return refused();
     }
-    if months < 1 {
+    if l.months < 1 {
         return refused();
     }
-    if 480 < months {
+    if 480 < l.months {
         return refused();
     }
-    if 300000000000000000 < m {
+    if 300000000000000000 < l.factor {
         return refused();
     }
-    loan_charge::charge::charge(p, q, balance, months, term, sup, m, table)
+    loan_charge::charge::charge(l, table)
 }
 
 fn is_within(x: Signed, range: Range) -> bool {
@@ -133,23 +123,14 @@ fn print_charge(c: LoanCharge) {
 }
 
 // A loan and the ranges of its two numbers.
-fn try_charge(s: &[u8], before: Number, table: &[u64; 1537]) -> Tried
+fn try_charge(s: &[u8], before: Number, table: &Exponentials) -> Tried
     requires { ⌜ (before .next ≤ length (now s)) × (now table ≡ exponentials) ⌝ }
     ensures { λ r. ⌜ (before .next ≤ r .next) × (r .next ≤ length (now (s .entry))) ⌝ }
 {
     let loan = read_loan(s, before);
     let total = cases::next_range(s, loan.next);
     let supplement = cases::next_range(s, total.next);
-    let got = charge_of(
-        loan.p,
-        loan.q,
-        loan.balance,
-        loan.months,
-        loan.term,
-        loan.sup,
-        loan.m,
-        table,
-    );
+    let got = charge_of(loan.inputs, table);
     let ok = is_within(got.total, total) & is_within(got.supplement, supplement);
     if !ok {
         print_charge(got);
@@ -194,12 +175,12 @@ fn read_factor(s: &[u8], before: Number) -> Factor
     }
 }
 
-fn is_factor(f: Factor, rates: &[u64; 66]) -> bool {
+fn is_factor(f: Factor, rates: &Rates) -> bool {
     let score = score_of(f.scored, f.number, f.age);
     f.m == loan_charge::credit::credit_factor(score, f.aged, f.loans, f.unscored, rates)
 }
 
-fn try_factor(s: &[u8], before: Number, rates: &[u64; 66]) -> Tried
+fn try_factor(s: &[u8], before: Number, rates: &Rates) -> Tried
     requires { ⌜ before .next ≤ length (now s) ⌝ }
     ensures { λ r. ⌜ (before .next ≤ r .next) × (r .next ≤ length (now (s .entry))) ⌝ }
 {
@@ -210,7 +191,7 @@ fn try_factor(s: &[u8], before: Number, rates: &[u64; 66]) -> Tried
     }
 }
 
-fn try_kind(s: &[u8], kind: Number, table: &[u64; 1537], rates: &[u64; 66]) -> Tried
+fn try_kind(s: &[u8], kind: Number, table: &Exponentials, rates: &Rates) -> Tried
     requires { ⌜ (kind .next ≤ length (now s)) × (now table ≡ exponentials) ⌝ }
     ensures { λ r. ⌜ (kind .next ≤ r .next) × (r .next ≤ length (now (s .entry))) ⌝ }
 {
@@ -220,7 +201,7 @@ fn try_kind(s: &[u8], kind: Number, table: &[u64; 1537], rates: &[u64; 66]) -> T
     try_factor(s, kind, rates)
 }
 
-fn try_case(s: &[u8], at: usize, table: &[u64; 1537], rates: &[u64; 66]) -> Tried
+fn try_case(s: &[u8], at: usize, table: &Exponentials, rates: &Rates) -> Tried
     requires { ⌜ (at < length (now s)) × (now table ≡ exponentials) ⌝ }
     ensures { λ r. ⌜ (at < r .next) × (r .next ≤ length (now (s .entry))) ⌝ }
 {
@@ -232,7 +213,7 @@ fn try_case(s: &[u8], at: usize, table: &[u64; 1537], rates: &[u64; 66]) -> Trie
 }
 
 // The cases of one block of the input.
-fn try_cases(s: &[u8], before: Tally, table: &[u64; 1537], rates: &[u64; 66]) -> Tally
+fn try_cases(s: &[u8], before: Tally, table: &Exponentials, rates: &Rates) -> Tally
     requires { ⌜ now table ≡ exponentials ⌝ }
 {
     let mut tally = before;
@@ -246,7 +227,7 @@ fn try_cases(s: &[u8], before: Tally, table: &[u64; 1537], rates: &[u64; 66]) ->
 }
 
 // Reads a block, which holds whole lines, and tries its cases.
-fn try_block(before: Block, table: &[u64; 1537], rates: &[u64; 66]) -> Block
+fn try_block(before: Block, table: &Exponentials, rates: &Rates) -> Block
     requires { ⌜ now table ≡ exponentials ⌝ }
 {
     let mut buf = io::large_buffer();
@@ -262,7 +243,7 @@ fn try_block(before: Block, table: &[u64; 1537], rates: &[u64; 66]) -> Block
 }
 
 // The blocks of the input. Nothing says that it ends, so their number is counted down from one that no run uses up.
-fn try_all(table: &[u64; 1537], rates: &[u64; 66]) -> Tally
+fn try_all(table: &Exponentials, rates: &Rates) -> Tally
     requires { ⌜ now table ≡ exponentials ⌝ }
 {
     let mut block = Block {

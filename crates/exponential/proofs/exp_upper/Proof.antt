@@ -1,38 +1,31 @@
--- `exponential::exp_upper` meets its contract: the tests lead to the two cases of the definition. Assumes nothing.
+-- `exponential::exp_upper` meets its contract: the exponent within 24 has an entry. Assumes nothing.
 use Prim.Native.Nat.{_/_}
 use mathlib.Core.Path.{refl}
 use borrow.Author.Needs.{needs}
-use native.Mathlib.Nat.{le-trans}
 use native.Mathlib.Omega.{arith}
+use Rattle.exponential.specs.Exponential.{expWithin, expUpper}
 use Rattle.exponential.proofs.Entries.{entry-bounded}
-use Rattle.exponential.proofs.Steps.{decrease-most, beyond, between}
 use Rattle.exponential.proofs.exp_upper.Statement.{statement}
 use Rattle.exponential.proofs.exp_upper.Tie as tie
 
-returns : tie.Need-returns
-returns c = rw (c .before .before .pre, beyond (c .before .before .args .y) (omega arith)) refl
-
 lower-requires : tie.Need-lower-requires
 lower-requires c κs =
-    let y = c .before .before .before .args .y in (
-      rw (c .before .before .before .pre) (entry-bounded (y / 4294967296) (omega arith)),
-      rw (c .decrease-of .ensures) (le-trans (decrease-most _) (omega arith)),
+    let x = c .before .before .within .result in (
+      rw (c .before .before .before .pre) (entry-bounded (x / 4294967296) (omega (arith, c .before .before .within .ensures))),
+      omega (arith, c .decrease-of .ensures .1),
     )
 
-returns-2 : tie.Need-returns-2
-returns-2 c =
-    let y = c .before .before .before .before .args .y in
-    rw (c .lower .ensures, c .before .decrease-of .ensures, c .before .before .before .before .pre, between y (omega arith)) refl
+returns : tie.Need-returns
+unfolding expUpper expWithin
+returns c = rw (c .lower .ensures, c .before .decrease-of .ensures .0, c .before .before .before .before .pre, c .before .before .before .within .ensures) refl
 
 pub exp-upper-spec : {M : Type 1} → statement M
 exp-upper-spec =
     tie.close
     (tie.spec
-    (λ c. search needs)
-    returns
-    (λ c. search needs)
+    (λ c κs. search needs)
     (λ c. search needs)
     (λ c. search needs)
     (λ c κs. search needs)
     lower-requires
-    returns-2)
+    returns)

@@ -16,11 +16,19 @@ mul-t5 c =
 
 add-t7 : tie.Need-add-t7
 add-t7 c =
-    omega (arith, div-le-of-le-mul (c .before .before .args .divisor) (scaled (c .before .before .args .d .remainder) (c .before .before .args .f) (c .before .before .args .divisor) (c .before .before .pre .0)))
+    omega (
+      arith,
+      div-le-of-le-mul (c .before .before .args .divisor)
+          (scaled (c .before .before .args .d .remainder) (c .before .before .args .f) (c .before .before .args .divisor) (c .before .before .pre .0)),
+    )
 
 mul-t8 : tie.Need-mul-t8
 mul-t8 c =
-    omega (arith, scaled (c .before .before .before .args .d .remainder) (c .before .before .before .args .f) (c .before .before .before .args .divisor) (c .before .before .before .pre .0))
+    omega (
+      arith,
+      scaled (c .before .before .before .args .d .remainder) (c .before .before .before .args .f)
+          (c .before .before .before .args .divisor) (c .before .before .before .pre .0),
+    )
 
 pub division-step-spec : {M : Type 1} → statement M
 division-step-spec = tie.close (tie.spec (λ c. search needs) mul-t5 (λ c. search needs) add-t7 mul-t8 (λ c. search needs) (λ c. search needs))

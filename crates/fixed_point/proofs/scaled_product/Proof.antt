@@ -39,10 +39,17 @@ add-result-2 : tie.Need-add-result-2
 add-result-2 c = omega (arith, cross (c .args .a) (c .args .b) (c .pre .0), cross' (c .args .b) (c .args .a) (c .pre .1), low (c .args .a) (c .args .b))
 
 add-result-3 : tie.Need-add-result-3
-add-result-3 c = omega (arith, high (c .args .a) (c .args .b) (c .pre .0) (c .pre .1), cross (c .args .a) (c .args .b) (c .pre .0), cross' (c .args .b) (c .args .a) (c .pre .1), low (c .args .a) (c .args .b))
+add-result-3 c = omega (
+  arith,
+  high (c .args .a) (c .args .b) (c .pre .0) (c .pre .1),
+  cross (c .args .a) (c .args .b) (c .pre .0),
+  cross' (c .args .b) (c .args .a) (c .pre .1),
+  low (c .args .a) (c .args .b),
+)
 
 returns : tie.Need-returns
-returns c = halves (c .args .a / 1048576) (c .args .a % 1048576) (c .args .b / 1048576) (c .args .b % 1048576) (c .args .a) (c .args .b) (sym (div-add-mod' (c .args .a) 1048576)) (sym (div-add-mod' (c .args .b) 1048576))
+returns c = halves (c .args .a / 1048576) (c .args .a % 1048576) (c .args .b / 1048576) (c .args .b % 1048576) (c .args .a) (c .args .b)
+    (sym (div-add-mod' (c .args .a) 1048576)) (sym (div-add-mod' (c .args .b) 1048576))
 
 pub scaled-product-spec : {M : Type 1} → statement M
 scaled-product-spec =

@@ -1,6 +1,6 @@
 -- `small_product` meets its contract: both products are bounded, and together they are the quotient. Assumes nothing.
 use mathlib.Core.Path.{sym}
-use Prim.Native.Nat.{ℕ, _*_, _/_, _%_, _≤_}
+use Prim.Native.Nat.{_*_, _/_, _%_, _≤_}
 use native.Mathlib.Omega.{arith}
 use native.Mathlib.Nat.{div-add-mod'}
 use Rattle.fixed_point.proofs.Laws.{half-products, bounded}

@@ -1,9 +1,8 @@
 use mathlib.Core.Path.{ap}
-use Prim.Native.Nat.{ℕ, _*_}
+use Prim.Native.Nat.{ℕ, _*_, _/_}
 use native.Mathlib.Omega.{arith}
 use Rattle.loan_charge.specs.Computation.{distance, deviations}
 use Rattle.loan_charge.proofs.Gauss.{distance-bound}
-use Prim.Native.Nat.{_/_}
 use borrow.Author.Needs.{needs}
 use Rattle.loan_charge.proofs.charge.deviations_from.Statement.{statement}
 use Rattle.loan_charge.proofs.charge.deviations_from.Tie as tie
