@@ -25,6 +25,8 @@ use line_forms::HeaderLine;
 use line_forms::Line;
 use line_forms::Loan;
 use loan_charge::Score;
+use loan_charge::charge::Exponentials;
+use loan_charge::credit::Rates;
 
 // At most so many lines of a book are not loans.
 const MOST_OTHER: u64 = 100000;
@@ -105,7 +107,7 @@ fn loan_beyond(h: Header, counts: Counts, score: Score) -> bool
     (h.loans <= counts.loans) | ((shares::unscored(score) == 1) & (h.unscored <= counts.unscored))
 }
 
-fn add_loan(b: Book, exps: &[u64; 1537], rates: &[u64; 66], l: Loan) -> Fed
+fn add_loan(b: Book, exps: &Exponentials, rates: &Rates, l: Loan) -> Fed
     requires { ⌜ Sound (stateAt b (now rates)) × LoanRanges l × (now exps ≡ exponentials) ⌝ }
     ensures { λ r. ⌜ r ≡ answerWith (loanRefusal (b .header) (b .sums .counts) (l .score)) b (loanShare (under (b .header) (now (rates .entry))) l) ⌝ }
 {
@@ -122,7 +124,7 @@ fn add_loan(b: Book, exps: &[u64; 1537], rates: &[u64; 66], l: Loan) -> Fed
 }
 
 // A line that was read.
-fn feed_line(b: Book, exps: &[u64; 1537], rates: &[u64; 66], line: Line) -> Fed
+fn feed_line(b: Book, exps: &Exponentials, rates: &Rates, line: Line) -> Fed
     requires { ⌜ Sound (stateAt b (now rates)) × Ranged (lineContent line) × (now exps ≡ exponentials) ⌝ }
     ensures { λ r. ⌜ r ≡ fedOf (feedingLine (stateAt b (now (rates .entry))) line) ⌝ }
 {
@@ -144,7 +146,7 @@ fn feed_line(b: Book, exps: &[u64; 1537], rates: &[u64; 66], line: Line) -> Fed
 }
 
 // A line is fed to a book, with both tables lent: for loops, since a constant array would be stored whole at every use.
-pub fn feed_with(b: Book, exps: &[u64; 1537], rates: &[u64; 66], line: &[u8]) -> Fed
+pub fn feed_with(b: Book, exps: &Exponentials, rates: &Rates, line: &[u8]) -> Fed
     requires { ⌜ Sound (stateAt b (now rates)) × (now exps ≡ exponentials) ⌝ }
     ensures equation { λ r. ⌜ r ≡ fedOf (feeding (stateAt b (now (rates .entry))) (now (line .entry))) ⌝ }
     ensures sound { λ r. ⌜ Sound (stateAt (r .book) (now (rates .entry))) ⌝ }

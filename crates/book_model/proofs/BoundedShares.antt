@@ -2,17 +2,16 @@
 use mathlib.Core.Path.{_≡_, refl}
 use Prim.Native.Nat.{ℕ, _≤_}
 use native.Mathlib.Omega.{arith}
-use lib.Dec.{eqb}
 use Rattle.loan_charge.specs.declared.Score.{Score}
 use Rattle.loan_charge.specs.declared.Score.the-variants.{Scored, Unscored}
-use Rattle.loan_charge.proofs.ChargeLaws.{charge-range}
+use Rattle.loan_charge.proofs.Promise.{promise}
 use Rattle.line_forms.specs.declared.Content.{Content}
 use Rattle.line_forms.specs.declared.Loan.{Loan}
 use Rattle.figures.specs.Sums.{Bounded}
 use Rattle.book_model.specs.LineKinds.{contentKind, kindCounts, unscoredCount}
 use Rattle.book_model.specs.Ranges.{LoanRanges, Ranged}
 use Rattle.book_model.specs.Share.{share, loanShare, loanNumbers}
-use Rattle.book_model.specs.Terms.{Terms, factorFor}
+use Rattle.book_model.specs.Terms.{Terms, loanInputs}
 use Rattle.book_model.proofs.Near.{ChargeableTerms, chargeable}
 use Rattle.book_model.proofs.Shapes.{Shape, of-loan, of-other, of-none, shape}
 
@@ -24,13 +23,15 @@ unscored-most Unscored = omega arith
 pub loan-bounded : {t : Terms} → ChargeableTerms t → (l : Loan) → LoanRanges l → Bounded (loanShare t l)
 unfolding loanShare loanNumbers kindCounts
 loan-bounded {t} g l r =
-    let h = charge-range (l .value) (l .balance) (l .balance) (l .amortization) (l .term) (factorFor t (l .score)) (chargeable g l r) (eqb (l .supplement) 1) in
+    let c = chargeable g l r in
+    let total = promise .total-range (loanInputs t l) c in
+    let supplement = promise .supplement-range (loanInputs t l) c in
     record {
       unscored = unscored-most (l .score);
-      total-plus = h .0 .most;
-      total-minus = h .0 .least;
-      supplement-plus = h .1 .most;
-      supplement-minus = h .1 .least;
+      total-plus = total .most;
+      total-minus = total .least;
+      supplement-plus = supplement .most;
+      supplement-minus = supplement .least;
       rest-cents = omega arith;
       rest-parts = omega arith;
       moved-cents = omega arith;

@@ -13,7 +13,7 @@ use borrow.Author.Tests.{eq-eqb}
 use Rattle.exact.specs.Choice.{pick}
 use Rattle.exact.specs.Fraction.{whole, _⊕_, _≼_, _≺_}
 use Rattle.exact.specs.Quantity.{Eventually}
-use Rattle.exact.proofs.Quantities.{takes, mapped, some-allowed}
+use Rattle.exact.proofs.Quantities.{at-every-order, mapped, some-allowed}
 use Rattle.loan_charge.specs.CreditFactor.{RatesInRange}
 use Rattle.loan_charge.proofs.CreditLaws.{built-in}
 use Rattle.line_forms.specs.declared.HeaderLine.{HeaderLine}
@@ -40,6 +40,7 @@ use Rattle.book_model.specs.Share.{share}
 use Rattle.book_model.specs.Terms.{Terms, termsWith}
 use Rattle.book_model.proofs.Bounds.{Near}
 use Rattle.book_model.proofs.Closings.{untouched, writes, tells}
+use Rattle.book_model.proofs.Dependence.{requirement-determined}
 use Rattle.book_model.proofs.ExactSums.{rest-sum, moved-sum, rounded-is}
 use Rattle.book_model.proofs.Near.{rates-chargeable}
 use Rattle.book_model.proofs.Required.{requiredFor, near, list-exponents}
@@ -163,11 +164,12 @@ measured-of t r kept =
       after = valueLine "capital" (f .capital) ++ ratioLine (f .ratio);
       line-eight = rw (← whole-text (f .required)) (eighth f);
       read-back = digits-value (f .required);
-      not-below = takes (requirement t kept) (λ v. v ≼ whole (f .required)) exponents (mapped (λ m n. (n .proper, n .not-below)) (near-taken t r kept));
-      close = takes (requirement t kept) (λ v. whole (f .required) ≺ v ⊕ allowance (countsIn kept .loans)) exponents (mapped (λ m n. (n .proper, n .close)) (near-taken t r kept));
-      both = takes (requirement t kept) (λ v. (v ≼ whole (f .required)) × (whole (f .required) ≺ v ⊕ allowance (countsIn kept .loans))) exponents
+      not-below = at-every-order (requirement t kept) (λ v. v ≼ whole (f .required)) exponents (mapped (λ m n. (n .proper, n .not-below)) (near-taken t r kept));
+      close = at-every-order (requirement t kept) (λ v. whole (f .required) ≺ v ⊕ allowance (countsIn kept .loans)) exponents (mapped (λ m n. (n .proper, n .close)) (near-taken t r kept));
+      both = at-every-order (requirement t kept) (λ v. (v ≼ whole (f .required)) × (whole (f .required) ≺ v ⊕ allowance (countsIn kept .loans))) exponents
           (mapped (λ m n. (n .proper, (n .not-below, n .close))) (near-taken t r kept));
       orders = some-allowed (requirement t kept .exponents) exponents;
+      determined = requirement-determined (rates-chargeable t r) kept;
     }
 
 -- Order

@@ -5,6 +5,7 @@ use Prim.Native.Nat.{ℕ, _≤_}
 use native.Mathlib.Omega.{arith}
 use Rattle.exact.specs.Fraction.{ceiling}
 use Rattle.exact.proofs.Examples as exact
+use Rattle.coefficients.proofs.Examples as coefficients
 use Rattle.loan_charge.proofs.Examples as loan
 use Rattle.other_charges.proofs.Examples as other
 use Rattle.line_forms.specs.Bytes.{allWithin, runOf, same, after}
@@ -52,10 +53,10 @@ pub twelve : TwelveExamples
 twelve =
     record {
       example1 = exact.example1;
-      example2 = loan.example2;
-      example3 = loan.example3;
-      example4 = loan.example4;
-      example5 = loan.example5 .0;
+      example2 = coefficients.example2;
+      example3 = coefficients.example3;
+      example4 = coefficients.example4;
+      example5 = loan.example5;
       example6 = loan.example6;
       example7 = loan.example7;
       example8 = other.example8;

@@ -2,6 +2,7 @@ pub mod BoundedShares
 pub mod Bounds
 pub mod Closings
 pub mod Demand1
+pub mod Dependence
 pub mod Demand2
 pub mod Demand3
 pub mod ExactSums

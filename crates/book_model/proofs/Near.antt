@@ -4,20 +4,18 @@ use mathlib.Core.Path.{_≡_, refl}
 use mathlib.Core.List.{List, [], _∷_}
 use Prim.Native.Nat.{ℕ, _+_, _*_, _^_, _≤_}
 use native.Mathlib.Omega.{arith}
-use lib.Dec.{eqb}
 use Rattle.exact.specs.Fraction.{Fraction, quotient, whole, _⊕_, _≼_, _≈_}
 use Rattle.exact.specs.Quantity.{Eventually}
 use Rattle.exact.proofs.Fractions
 use Rattle.exact.proofs.Within.{Within, within-sum, within-alike, within-wider, within-same}
 use Rattle.exact.proofs.Quantities.{both, mapped, always}
 use Rattle.fixed_point.specs.declared.Signed.{Signed}
-use Rattle.loan_charge.specs.Computation.{Chargeable}
-use Rattle.loan_charge.specs.Charge.{NearExact, signedCents}
+use Rattle.loan_charge.specs.Charge.{Chargeable}
+use Rattle.loan_charge.specs.Promise.{NearExact, signedCents}
 use Rattle.loan_charge.specs.CreditFactor.{RatesInRange}
 use Rattle.loan_charge.specs.declared.charge.LoanCharge.{LoanCharge}
 use Rattle.loan_charge.specs.declared.Score.{Score}
-use Rattle.loan_charge.proofs.ChargeLaws.{charge-near}
-use Rattle.loan_charge.proofs.CreditLaws.{in-range}
+use Rattle.loan_charge.proofs.Promise.{promise}
 use Rattle.line_forms.specs.declared.Content.{Content}
 use Rattle.line_forms.specs.declared.Loan.{Loan}
 use Rattle.line_forms.specs.Claims.{refusalOf as lineRefusal, heldBy as lineContent}
@@ -31,7 +29,7 @@ use Rattle.book_model.specs.History.{sumsOf}
 use Rattle.book_model.specs.LineKinds.{contentKind, kindCounts}
 use Rattle.book_model.specs.Ranges.{LoanRanges, Ranged}
 use Rattle.book_model.specs.Share.{share, loanShare, loanNumbers}
-use Rattle.book_model.specs.Terms.{Terms, factorFor}
+use Rattle.book_model.specs.Terms.{Terms, factorFor, loanInputs}
 use Rattle.book_model.proofs.Ranged.{ranged}
 use Rattle.book_model.proofs.Shapes.{Shape, of-loan, of-other, of-none, shape}
 
@@ -94,9 +92,9 @@ pub record ChargeableTerms (t : Terms) : Type 0 where
 
 pub rates-chargeable : (t : Terms) → RatesInRange (t .rates) → ChargeableTerms t
 unfolding factorFor
-rates-chargeable t r = record { factors = λ s. in-range (t .rates) r (onAgedTable (t .header)) (t .header .loans) (t .header .unscored) s .most }
+rates-chargeable t r = record { factors = λ s. promise .factors (t .rates) r (onAgedTable (t .header)) (t .header .loans) (t .header .unscored) s .most }
 
-pub chargeable : {t : Terms} → ChargeableTerms t → (l : Loan) → LoanRanges l → Chargeable (l .balance) (l .balance) (l .amortization) (factorFor t (l .score))
+pub chargeable : {t : Terms} → ChargeableTerms t → (l : Loan) → LoanRanges l → Chargeable (loanInputs t l)
 chargeable g l r =
     record {
       divisor-least = r .balance-least;
@@ -116,7 +114,7 @@ line-close {t} g n c r = go (shape t c) r
         Eventually (λ x. Close (exactShare t c .total .value x) (exactShare t c .supplement .value x) (share t c) (kindCounts (contentKind n c) .loans))
     go (of-loan l) r =
         mapped (λ m k. one-close (loanNumbers t l) (loanShare t l) refl refl k)
-        (charge-near (l .value) (l .balance) (l .balance) (l .amortization) (l .term) (factorFor t (l .score)) (chargeable g l r) (eqb (l .supplement) 1))
+        (promise .near (loanInputs t l) (chargeable g l r))
     go (of-other k a) r = rw (k n, a .sums, a .exactly) (always (λ m. none-close _ refl refl))
     go (of-none k a b) r = rw (k n, a, b) (always (λ m. none-close _ refl refl))
 

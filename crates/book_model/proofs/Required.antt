@@ -1,7 +1,6 @@
 -- The required amount of the accepted lines near their exact requirement. Assumes nothing.
 use mathlib.Core.List.{List, [], _∷_}
 use Prim.Native.Nat.{ℕ, _*_, _≤_}
-use lib.Dec.{eqb}
 use Rattle.exact.specs.Quantity.{Eventually}
 use Rattle.exact.proofs.Quantities.{Exponents, mapped, no-exponents, appended-exponents}
 use Rattle.loan_charge.proofs.ChargeLaws.{total-exponents}
@@ -13,7 +12,7 @@ use Rattle.book_model.specs.Accepted.{countsIn}
 use Rattle.book_model.specs.Exact.{exactShare, exactOf, exactRest, exponentsOver, requirement}
 use Rattle.book_model.specs.History.{sumsOf}
 use Rattle.book_model.specs.Ranges.{Ranged}
-use Rattle.book_model.specs.Terms.{Terms, factorFor}
+use Rattle.book_model.specs.Terms.{Terms, loanInputs}
 use Rattle.book_model.proofs.Bounds.{Near, required-near}
 use Rattle.book_model.proofs.ExactSums.{rest-sum, rounded-is, parts-nonnegative}
 use Rattle.book_model.proofs.Near.{ChargeableTerms, list-close, chargeable}
@@ -43,7 +42,7 @@ line-exponents {t} g c r = go (shape t c) r
   where
     go : {c : Content} → Shape t c → Ranged c → Exponents (exactShare t c .total .exponents)
     go (of-loan l) r =
-        total-exponents (l .value) (l .balance) (l .balance) (l .amortization) (l .term) (factorFor t (l .score)) (chargeable g l r) (eqb (l .supplement) 1)
+        total-exponents (loanInputs t l) (chargeable g l r)
     go (of-other k a) r = rw (a .exactly) no-exponents
     go (of-none k a b) r = rw b no-exponents
 

@@ -6,7 +6,7 @@ use mathlib.Core.Logic.{_↔_}
 use mathlib.Core.List.{List, [], _∷_, _++_, List·Permᴰ}
 use lib.ListN.{length, take}
 use Rattle.exact.specs.Fraction.{Fraction, quotient, whole, ceiling, _⊕_, _≼_, _≺_}
-use Rattle.exact.specs.Quantity.{AtMost, ExceedsByLess, Takes, SomeAllowed}
+use Rattle.exact.specs.Quantity.{Determined, AtMost, ExceedsByLess, AtEveryOrder, SomeAllowed}
 use Rattle.exact.specs.Text.{text}
 use Rattle.figures.specs.declared.Figures.{Figures}
 use Rattle.figures.specs.Figures.{figuresFrom}
@@ -68,9 +68,10 @@ pub record Measured (t : Terms) (kept : List (List ℕ)) : Type 0 where
   pub not-below : AtMost (requirement t kept) (whole required)
   pub close : ExceedsByLess (requirement t kept) (allowance (countsIn kept .loans)) (whole required)
   -- both sides by one value in each bracket
-  pub both : Takes (requirement t kept) (λ v. (v ≼ whole required) × (whole required ≺ v ⊕ allowance (countsIn kept .loans)))
-  -- some order is allowed
+  pub both : AtEveryOrder (requirement t kept) (λ v. (v ≼ whole required) × (whole required ≺ v ⊕ allowance (countsIn kept .loans)))
+  -- some order is allowed, and no exponent of the requirement is left out of its list
   pub orders : SomeAllowed (requirement t kept .exponents)
+  pub determined : Determined (requirement t kept)
 
 -- Two closings that write a report: lengths and bytes are the same, whatever the buffers' sizes and contents.
 abbrev pub SameReports : Book → Book → Type 0

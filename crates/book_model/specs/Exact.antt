@@ -1,7 +1,6 @@
 -- The exact amounts of lines, as fractions of a cent (document 01, "The rest, and closing"): nothing is rounded.
 use Prim.Native.Nat.{ℕ}
 use mathlib.Core.List.{List, [], _∷_, _++_}
-use lib.Dec.{eqb}
 use Rattle.exact.specs.Fraction.{Fraction, whole, _⊕_}
 use Rattle.exact.specs.Quantity.{Assignment, Quantity}
 use Rattle.fixed_point.specs.declared.Signed.{Signed}
@@ -16,7 +15,7 @@ use Rattle.line_forms.specs.declared.Content.the-variants.{Header as header, Lo
 use Rattle.line_forms.specs.Claims.{heldBy as lineContent}
 use Rattle.line_forms.specs.Readings.{lineOf}
 use Rattle.other_charges.specs.Charges.{assetCharge, shareCharge, claimsPercent, lossComponentsPercent, statedPercent, derivativeCharge, provision, multiProvision}
-use Rattle.book_model.specs.Terms.{Terms, factorFor}
+use Rattle.book_model.specs.Terms.{Terms, loanInputs}
 use Rattle.book_model.specs.Requirement.{exactRequired}
 
 -- plus - minus
@@ -25,12 +24,10 @@ signedFraction x = record { plus = x .plus; minus = x .minus; over = 1 }
 
 -- a loan's exact base plus supplement, and its exact supplement
 abbrev pub loanTotal : Terms → Loan → Quantity
-loanTotal t l =
-    totalQuantity (l .value) (l .balance) (l .balance) (l .amortization) (l .term) (eqb (l .supplement) 1) (factorFor t (l .score))
+loanTotal t l = totalQuantity (loanInputs t l)
 
 abbrev pub loanSupplement : Terms → Loan → Quantity
-loanSupplement t l =
-    supplementQuantity (l .value) (l .balance) (l .balance) (l .amortization) (l .term) (eqb (l .supplement) 1) (factorFor t (l .score))
+loanSupplement t l = supplementQuantity (loanInputs t l)
 
 -- What a line adds exactly: to rest and moved in cents, and to total and supplement.
 pub record ExactShare : Type 0 where

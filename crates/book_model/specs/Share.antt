@@ -2,7 +2,6 @@
 -- Amounts of rest and moved are in ten-millionths of a cent, the paper's exact charges by the laws of other_charges.
 use Prim.Native.Nat.{ℕ, _-_}
 use mathlib.Core.Bool.{Bool, true, false}
-use lib.Dec.{eqb}
 use Rattle.fixed_point.specs.declared.Signed.{Signed}
 use Rattle.loan_charge.specs.Computation.{chargeOf}
 use Rattle.loan_charge.specs.declared.charge.LoanCharge.{LoanCharge}
@@ -23,12 +22,11 @@ use Rattle.figures.specs.declared.Money.{Money}
 use Rattle.figures.specs.declared.Sums.{Sums}
 use Rattle.figures.specs.Sums.{noSums, zeroSigned, zeroMoney, moneyOf}
 use Rattle.book_model.specs.LineKinds.{a-loan, another, kindCounts}
-use Rattle.book_model.specs.Terms.{Terms, factorFor}
+use Rattle.book_model.specs.Terms.{Terms, loanInputs}
 
 -- the two numbers of a loan
 unfoldable pub loanNumbers : Terms → Loan → LoanCharge
-loanNumbers t l =
-    chargeOf (l .value) (l .balance) (l .balance) (l .amortization) (l .term) (eqb (l .supplement) 1) (factorFor t (l .score))
+loanNumbers t l = chargeOf (loanInputs t l)
 
 unfoldable pub loanShare : Terms → Loan → Sums
 loanShare t l = record {

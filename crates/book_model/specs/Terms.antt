@@ -1,10 +1,13 @@
 -- What a book is opened under.
 use Prim.Native.Nat.{ℕ}
 use mathlib.Core.List.{List}
+use lib.Dec.{eqb}
+use Rattle.loan_charge.specs.declared.LoanInputs.{LoanInputs}
 use Rattle.loan_charge.specs.declared.Score.{Score}
 use Rattle.loan_charge.specs.CreditFactor.{creditFactor, builtInRates}
 use Rattle.line_forms.specs.Contents.{onAgedTable}
 use Rattle.line_forms.specs.declared.Header.{Header}
+use Rattle.line_forms.specs.declared.Loan.{Loan}
 
 -- its header and its table of credit factors
 pub record Terms : Type 0 where
@@ -22,3 +25,15 @@ termsWith h = under h builtInRates
 unfoldable pub factorFor : Terms → Score → ℕ
 factorFor t score =
     creditFactor (t .rates) (onAgedTable (t .header)) (t .header .loans) (t .header .unscored) score
+
+-- what the charge of a loan depends on
+abbrev pub loanInputs : Terms → Loan → LoanInputs
+loanInputs t l = record {
+  value = l .value;
+  over = l .balance;
+  balance = l .balance;
+  months = l .amortization;
+  term = l .term;
+  supplement = eqb (l .supplement) 1;
+  factor = factorFor t (l .score);
+}

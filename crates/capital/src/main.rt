@@ -8,6 +8,8 @@ ghost use Rattle.loan_charge.specs.CreditFactor.{builtInRates};
 ghost use Rattle.driver.specs.Reading.{withBytes, readingOf, Running};
 ghost use Rattle.capital.specs.Reads.{ReadsOn, Reached, EndsReading};
 use driver::Run;
+use loan_charge::charge::Exponentials;
+use loan_charge::credit::Rates;
 
 // The reads are counted, since nothing says that the input ends: no run uses up so many.
 const MOST_READS: usize = 1099511627776;
@@ -21,7 +23,7 @@ struct Turn {
 }
 
 // One read, and what it gave. Nothing more is read after a refusal, nor of a line that is already too long.
-fn read_once(run: Run, exps: &[u64; 1537], rates: &[u64; 66], buf: &mut [u8]) -> Turn
+fn read_once(run: Run, exps: &Exponentials, rates: &Rates, buf: &mut [u8]) -> Turn
     requires { ⌜ Running run (now rates) × (run .read + length (now buf) ≤ 2 ^ 62) × (now exps ≡ exponentials) × (now rates ≡ builtInRates) ⌝ }
     ensures reading { λ r. ⌜ ReadsOn (readingOf run (now (rates .entry))) (readingOf (r .run) (now (rates .entry))) (r .count) (now (buf .exit)) ⌝ }
     ensures running { λ r. ⌜ Running (r .run) (now (rates .entry)) × (r .run .read ≡ run .read + r .count) ⌝ }
@@ -49,7 +51,7 @@ fn read_once(run: Run, exps: &[u64; 1537], rates: &[u64; 66], buf: &mut [u8]) ->
 }
 
 // Reads to the end of the input.
-fn read_all(exps: &[u64; 1537], rates: &[u64; 66], buf: &mut [u8]) -> Turn
+fn read_all(exps: &Exponentials, rates: &Rates, buf: &mut [u8]) -> Turn
     requires { ⌜ (now exps ≡ exponentials) × (now rates ≡ builtInRates) × (length (now buf) ≡ 65536) ⌝ }
     ensures reached { λ r. ⌜ Reached (readingOf (r .run) (now (rates .entry))) (r .run .read) ⌝ }
     ensures running { λ r. ⌜ Running (r .run) (now (rates .entry)) × (r .run .read ≤ 2 ^ 62) ⌝ }

@@ -14,6 +14,8 @@ ghost use Rattle.driver.specs.Reading.{fromStart, withLine, unbroken, mo
 ghost use Rattle.driver.specs.Printed.{printedFor, ended, PrintsWhole};
 use book_model::Book;
 use line_forms::Header;
+use loan_charge::charge::Exponentials;
+use loan_charge::credit::Rates;
 
 // So many bytes of a line not yet ended are held: beyond 240 a line is refused whatever they are.
 const MOST_HELD: usize = 241;
@@ -91,7 +93,7 @@ fn answered(refusal: u64, number: u64, book: Book) -> Progress
 }
 
 // A whole line is read.
-fn end_line(p: Progress, exps: &[u64; 1537], rates: &[u64; 66], line: &[u8]) -> Progress
+fn end_line(p: Progress, exps: &Exponentials, rates: &Rates, line: &[u8]) -> Progress
     requires { ⌜ Sound (stateAt (p .book) (now rates)) × (p .number < 2 ^ 63) × (now exps ≡ exponentials) × (now rates ≡ builtInRates) ⌝ }
     ensures equation { λ r. ⌜ stageAt r (now (rates .entry)) ≡ withLine (stageAt p (now (rates .entry))) (now (line .entry)) ⌝ }
     ensures sound { λ r. ⌜ Sound (stateAt (r .book) (now (rates .entry))) ⌝ }
@@ -119,7 +121,7 @@ struct LinesRead {
 }
 
 // Every line that ends in the bytes is read. Here alone a line is fed, so that the book is copied once and not at every call.
-fn lines(before: Progress, exps: &[u64; 1537], rates: &[u64; 66], bytes: &[u8]) -> LinesRead
+fn lines(before: Progress, exps: &Exponentials, rates: &Rates, bytes: &[u8]) -> LinesRead
     requires { ⌜ Sound (stateAt (before .book) (now rates)) × (before .number + length (now bytes) < 2 ^ 63) × (now exps ≡ exponentials) × (now rates ≡ builtInRates) ⌝ }
     ensures equation { λ r.
         ⌜ record { stage = stageAt (r .progress) (now (rates .entry)); tail = [] } ≡
@@ -181,8 +183,8 @@ fn end_held(
     p: Progress,
     tail: &mut [u8],
     held: usize,
-    exps: &[u64; 1537],
-    rates: &[u64; 66],
+    exps: &Exponentials,
+    rates: &Rates,
 ) -> Progress
     requires { ⌜ Sound (stateAt (p .book) (now rates)) × (p .number + 242 < 2 ^ 63) × (now exps ≡ exponentials) × (now rates ≡ builtInRates) × (held ≤ mostHeld) × (length (now tail) ≡ 242) × (unbroken (take held (now tail)) ≡ true) ⌝ }
     ensures equation { λ r. ⌜ stageAt r (now (rates .entry)) ≡ withLine (stageAt p (now (rates .entry))) (take held (now (tail .entry))) ⌝ }
@@ -199,8 +201,8 @@ fn end_held(
 fn read_lines(
     p: Progress,
     before: [u8; TAIL],
-    exps: &[u64; 1537],
-    rates: &[u64; 66],
+    exps: &Exponentials,
+    rates: &Rates,
     bytes: &[u8],
     read: usize,
 ) -> Run
@@ -224,7 +226,7 @@ fn read_lines(
 }
 
 // A part of the input is read.
-pub fn step(run: Run, exps: &[u64; 1537], rates: &[u64; 66], chunk: &[u8]) -> Run
+pub fn step(run: Run, exps: &Exponentials, rates: &Rates, chunk: &[u8]) -> Run
     requires { ⌜ Running run (now rates) × (run .read + length (now chunk) ≤ 2 ^ 62) × (now exps ≡ exponentials) × (now rates ≡ builtInRates) ⌝ }
     ensures equation { λ r. ⌜ readingOf r (now (rates .entry)) ≡ withBytes (readingOf run (now (rates .entry))) (now (chunk .entry)) ⌝ }
     ensures running { λ r. ⌜ Running r (now (rates .entry)) ⌝ }
@@ -275,7 +277,7 @@ fn put_answer(p: Progress, out: &mut [u8]) -> usize
 }
 
 // The end of the input: what is to be printed is written to the lent buffer.
-pub fn finish(run: Run, exps: &[u64; 1537], rates: &[u64; 66], out: &mut [u8]) -> usize
+pub fn finish(run: Run, exps: &Exponentials, rates: &Rates, out: &mut [u8]) -> usize
     requires { ⌜ Running run (now rates) × (run .read ≤ 2 ^ 62) × (now exps ≡ exponentials) × (now rates ≡ builtInRates) × (reportSize ≤ length (now out)) ⌝ }
     ensures equation { λ r. ⌜ Written (now (out .entry)) (printedFor (ended (readingOf run (now (rates .entry))))) r (now (out .exit)) ⌝ }
     ensures whole { λ r. ⌜ PrintsWhole (readingOf run (now (rates .entry))) (now (out .entry)) r (now (out .exit)) ⌝ }

@@ -18,7 +18,10 @@ use line_forms::Derivative;
 use line_forms::Header;
 use line_forms::Item;
 use line_forms::Loan;
+use loan_charge::LoanInputs;
 use loan_charge::Score;
+use loan_charge::charge::Exponentials;
+use loan_charge::credit::Rates;
 
 fn no_money() -> Money
     ensures { λ r. ⌜ r ≡ zeroMoney ⌝ }
@@ -149,30 +152,30 @@ pub fn unscored(score: Score) -> u64
     }
 }
 
-fn factor(h: Header, score: Score, rates: &[u64; 66]) -> u64
+fn factor(h: Header, score: Score, rates: &Rates) -> u64
     ensures { λ r. ⌜ r ≡ factorFor (under h (now (rates .entry))) score ⌝ }
 {
     let aged = line_forms::on_aged_table(h);
     loan_charge::credit::credit_factor(score, aged, h.loans, h.unscored, rates)
 }
 
-pub fn loan(h: Header, l: Loan, exps: &[u64; 1537], rates: &[u64; 66]) -> Sums
+pub fn loan(h: Header, l: Loan, exps: &Exponentials, rates: &Rates) -> Sums
     requires { ⌜ LoanRanges l × (now exps ≡ exponentials) × RatesInRange (now rates) ⌝ }
     ensures { λ r. ⌜ r ≡ loanShare (under h (now (rates .entry))) l ⌝ }
 {
     let score = l.score;
     let m = factor(h, score, rates);
     let applies = l.supplement == 1;
-    let charge = loan_charge::charge::charge(
-        l.value,
-        l.balance,
-        l.balance,
-        l.amortization,
-        l.term,
-        applies,
-        m,
-        exps,
-    );
+    let inputs = LoanInputs {
+        value: l.value,
+        over: l.balance,
+        balance: l.balance,
+        months: l.amortization,
+        term: l.term,
+        supplement: applies,
+        factor: m,
+    };
+    let charge = loan_charge::charge::charge(inputs, exps);
     let total = charge.total;
     let supplement = charge.supplement;
     Sums {
