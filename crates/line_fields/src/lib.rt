@@ -1,14 +1,10 @@
 // Readers of a field: a text, a run of bytes, a number.
-ghost use mathlib.Core.List.{[], _∷_};
 ghost use mathlib.Core.Path.{_≡_};
-ghost use Prim.Native.Nat.{_+_, _-_, _≤_};
-ghost use lib.Dec.{ltb};
-ghost use lib.ListN.{length, drop};
-ghost use Rattle.exact.specs.Choice.{pick};
-ghost use Rattle.line_forms.specs.Bytes.{same as sameBytes, after, past, runOf, within};
+ghost use lib.ListN.{drop};
+ghost use Rattle.line_forms.specs.Bytes.{same as sameBytes, after, runOf, within};
+ghost use Rattle.line_forms.specs.Forms.{choicesOf};
 ghost use Rattle.line_forms.specs.Numerals.{numberOf};
 ghost use Rattle.line_forms.specs.Parsing.{numberAt, afterNumber, minusAt, signedAt, afterSigned, negativeAt, afterNegative, placeOf, afterWord, lettersAt};
-ghost use Rattle.line_forms.specs.Contents.{kinds};
 use fixed_point::Signed;
 use line_forms::Number;
 
@@ -203,55 +199,25 @@ fn negative_at(line: &[u8], at: usize) -> FoundSigned
     }
 }
 
-// The place of a word among two choices.
-fn pair_place(w: &[u8], first: &[u8], second: &[u8]) -> u64
-    ensures { λ r. ⌜ r ≡ placeOf (now (w .entry)) (now (first .entry) ∷ now (second .entry) ∷ []) ⌝ }
-{
-    if same(w, first) {
-        return 0;
-    }
-    if same(w, second) {
-        return 1;
-    }
-    2
-}
-
-fn kind_place(w: &[u8]) -> u64
-    ensures { λ r. ⌜ r ≡ placeOf (now (w .entry)) kinds ⌝ }
-{
-    if same(w, b"rate") {
-        return 0;
-    }
-    if same(w, b"float") {
-        return 1;
-    }
-    if same(w, b"fx") {
-        return 2;
-    }
-    if same(w, b"equity") {
-        return 3;
-    }
-    if same(w, b"metal") {
-        return 4;
-    }
-    if same(w, b"other") {
-        return 5;
-    }
-    6
-}
-
-// A word of n letters at a position, with its place among `count` choices.
-fn word_found(line: &[u8], at: usize, n: usize, place: u64, count: u64) -> Found
-    requires { ⌜ n ≤ length (now line) - at ⌝ }
+// The word at a position, with its place among the choices that upright bars separate.
+pub fn word_at(line: &[u8], at: usize, choices: &[u8]) -> Found
     ensures { λ r.
-        ⌜ (r .value ≡ place) ×
-        (r .next ≡ pick (ltb place count) (at + n) (past (now (line .entry)))) ⌝ }
+        ⌜ (r .value ≡ placeOf (lettersAt (now (line .entry)) at) (choicesOf (now (choices .entry)))) ×
+        (r .next ≡ afterWord (choicesOf (now (choices .entry))) (now (line .entry)) at) ⌝ }
 {
-    if place < count {
-        return Found {
-            value: place,
-            next: at + n,
-        };
+    let w = run(line, at, b'a', b'z');
+    let mut place: u64 = 0;
+    let mut i = 0;
+    while i <= choices.len() {
+        let choice = run(choices, i, 0, b'{');
+        if same(w, choice) {
+            return Found {
+                value: place,
+                next: at + w.len(),
+            };
+        }
+        i = i + choice.len() + 1;
+        place += 1;
     }
     Found {
         value: place,
@@ -259,24 +225,11 @@ fn word_found(line: &[u8], at: usize, n: usize, place: u64, count: u64) -> Found
     }
 }
 
-// One of two words after a text.
-pub fn pair_after(line: &[u8], at: usize, text: &[u8], first: &[u8], second: &[u8]) -> Found
+// One of the choices after a text.
+pub fn word_after(line: &[u8], at: usize, text: &[u8], choices: &[u8]) -> Found
     ensures { λ r.
-        ⌜ (r .value ≡ placeOf (lettersAt (now (line .entry)) (after (now (line .entry)) at (now (text .entry)))) (now (first .entry) ∷ now (second .entry) ∷ [])) ×
-        (r .next ≡ afterWord (now (first .entry) ∷ now (second .entry) ∷ []) (now (line .entry)) (after (now (line .entry)) at (now (text .entry)))) ⌝ }
+        ⌜ (r .value ≡ placeOf (lettersAt (now (line .entry)) (after (now (line .entry)) at (now (text .entry)))) (choicesOf (now (choices .entry)))) ×
+        (r .next ≡ afterWord (choicesOf (now (choices .entry))) (now (line .entry)) (after (now (line .entry)) at (now (text .entry)))) ⌝ }
 {
-    let from = skip(line, at, text);
-    let w = run(line, from, b'a', b'z');
-    word_found(line, from, w.len(), pair_place(w, first, second), 2)
-}
-
-// One of the kinds of derivative after a text.
-pub fn kind_after(line: &[u8], at: usize, text: &[u8]) -> Found
-    ensures { λ r.
-        ⌜ (r .value ≡ placeOf (lettersAt (now (line .entry)) (after (now (line .entry)) at (now (text .entry)))) kinds) ×
-        (r .next ≡ afterWord kinds (now (line .entry)) (after (now (line .entry)) at (now (text .entry)))) ⌝ }
-{
-    let from = skip(line, at, text);
-    let w = run(line, from, b'a', b'z');
-    word_found(line, from, w.len(), kind_place(w), 6)
+    word_at(line, skip(line, at, text), choices)
 }

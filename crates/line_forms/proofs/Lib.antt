@@ -1,6 +1,7 @@
 pub mod AnswerLaws
 pub mod Bounds
 pub mod Bytes
+pub mod Choices
 pub mod ContentLaws
 pub mod FieldLaws
 pub mod FormLaws

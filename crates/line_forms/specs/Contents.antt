@@ -8,7 +8,7 @@ use Rattle.loan_charge.specs.declared.Score.the-variants.{Scored, Unscored}
 use Rattle.exact.specs.Text.{text}
 use Rattle.exact.specs.Choice.{pick}
 use Rattle.line_forms.specs.Bytes.{within, same}
-use Rattle.line_forms.specs.Forms.{Form, field, end, number, signed, word, Values, AllWritable, formText}
+use Rattle.line_forms.specs.Forms.{choicesOf, Form, field, end, number, signed, word, Values, AllWritable, formText}
 use Rattle.fixed_point.specs.declared.Signed.{Signed}
 use Rattle.line_forms.specs.declared.Header.{Header}
 use Rattle.line_forms.specs.declared.Loan.{Loan}
@@ -29,7 +29,7 @@ use Rattle.line_forms.specs.declared.Content.the-variants.{Header as hea
 
 -- (book (loans D) (unscored D) (scores fresh|aged) (held D))
 abbrev pub scores : List (List ℕ)
-scores = text "fresh" ∷ text "aged" ∷ []
+scores = choicesOf (text "fresh|aged")
 
 abbrev pub headerForm : Form
 headerForm =
@@ -96,7 +96,7 @@ loanInRange l =
 
 -- (policy (class home|multi) (prem D) (term D) (done D))
 abbrev pub classes : List (List ℕ)
-classes = text "home" ∷ text "multi" ∷ []
+classes = choicesOf (text "home|multi")
 
 abbrev pub classPlace : Class → ℕ
 classPlace Home = 0
@@ -124,7 +124,7 @@ moneyInRange n = within 0 100000000000 (n .plus) && within 0 100000000000 (n .mi
 
 -- (deriv (kind rate|float|fx|equity|metal|other) (cost S) (notional D) (months D) (pays D) (factor D))
 abbrev pub kinds : List (List ℕ)
-kinds = text "rate" ∷ text "float" ∷ text "fx" ∷ text "equity" ∷ text "metal" ∷ text "other" ∷ []
+kinds = choicesOf (text "rate|float|fx|equity|metal|other")
 
 abbrev pub kindPlace : Kind → ℕ
 kindPlace Rate = 0

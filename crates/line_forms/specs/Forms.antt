@@ -1,11 +1,22 @@
 -- A form of a line: texts with fields between them, and how its values are written.
 use Prim.Native.Nat.{ℕ, _<_}
-use mathlib.Core.List.{List, [], _++_}
+use mathlib.Core.List.{List, [], _∷_, _++_}
 use mathlib.Core.Logic.{_⊎_}
 use mathlib.Core.Path.{_≡_}
 use lib.ListN.{length, getD}
+use Rattle.exact.specs.Choice.{pick}
+use Rattle.line_forms.specs.Bytes.{within}
 use Rattle.line_forms.specs.Numerals.{decimal, limit, signedText}
 use Rattle.fixed_point.specs.declared.Signed.{Signed}
+
+-- 01: "Upright bars separate choices." A bar is the byte 124; no letter is above it.
+abbrev pub longer : ℕ → List (List ℕ) → List (List ℕ)
+longer b [] = []
+longer b (w ∷ choices) = (b ∷ w) ∷ choices
+
+abbrev pub choicesOf : List ℕ → List (List ℕ)
+choicesOf [] = [] ∷ []
+choicesOf (b ∷ t) = pick (within 0 123 b) (longer b (choicesOf t)) ([] ∷ choicesOf t)
 
 -- a D, an S, or one of the words that upright bars separate
 pub data Field : Type 0 where

@@ -6,9 +6,8 @@ use lib.ListN.{length}
 use Rattle.loan_charge.specs.declared.Score.the-variants.{Scored, Unscored}
 use Rattle.exact.specs.Text.{text}
 use Rattle.exact.specs.Choice.{pick}
-use Rattle.line_forms.specs.Bytes.{same}
-use Rattle.line_forms.specs.Forms.{Values}
-use Rattle.line_forms.specs.Parsing.{valuesAt, hasForm, lettersAt}
+use Rattle.line_forms.specs.Forms.{Values, choicesOf}
+use Rattle.line_forms.specs.Parsing.{valuesAt, hasForm, lettersAt, placeOf}
 use Rattle.line_forms.specs.Contents.{headerForm, headerInRange, scoredLoan, unscoredLoan, loanInRange, policyForm, policyInRange, derivativeForm, derivativeInRange, assetForm, assetInRange, plainForm, signedForm, amountInRange}
 use Rattle.fixed_point.specs.declared.Signed.{Signed}
 use Rattle.line_forms.specs.declared.Header.{Header}
@@ -122,25 +121,33 @@ unfoldable pub signedHeld : Item → List ℕ → List ℕ → Content
 signedHeld i t s =
     pick (hasForm (signedForm t) s) (amount (record { item = i; amount = valuesAt (signedForm t) s 0 .0 })) NoForm
 
--- the same by the form's name
-unfoldable pub amountHeld : List ℕ → List ℕ → Content
-amountHeld name s =
-    pick (same name (text "claims")) (plainHeld Claims (text "(claims ") s)
-    (pick (same name (text "lossc")) (plainHeld Lossc (text "(lossc ") s)
-    (pick (same name (text "stated")) (plainHeld Stated (text "(stated ") s)
-    (pick (same name (text "equity")) (signedHeld Equity (text "(equity ") s)
-    (pick (same name (text "aoci")) (signedHeld Aoci (text "(aoci ") s)
-    (pick (same name (text "b")) (plainHeld B (text "(b ") s)
-    (pick (same name (text "c")) (plainHeld C (text "(c ") s) NoForm))))))
+-- the name of each form, after its opening bracket
+abbrev pub names : List (List ℕ)
+names = choicesOf (text "loan|policy|deriv|asset|book|claims|lossc|stated|equity|aoci|b|c")
 
--- What a line holds. A form's name stands after the opening bracket.
+-- an amount by the place of its name
+unfoldable pub amountHeld : ℕ → List ℕ → Content
+amountHeld name s =
+    pick (eqb name 5) (plainHeld Claims (text "(claims ") s)
+    (pick (eqb name 6) (plainHeld Lossc (text "(lossc ") s)
+    (pick (eqb name 7) (plainHeld Stated (text "(stated ") s)
+    (pick (eqb name 8) (signedHeld Equity (text "(equity ") s)
+    (pick (eqb name 9) (signedHeld Aoci (text "(aoci ") s)
+    (pick (eqb name 10) (plainHeld B (text "(b ") s)
+    (pick (eqb name 11) (plainHeld C (text "(c ") s) NoForm))))))
+
+-- what a line holds by the place of its name
+abbrev pub heldAs : ℕ → List ℕ → Content
+heldAs name s =
+    pick (eqb name 0) (loanHeld s)
+    (pick (eqb name 1) (policyHeld s)
+    (pick (eqb name 2) (derivativeHeld s)
+    (pick (eqb name 3) (assetHeld s)
+    (pick (eqb name 4) (headerHeld s) (amountHeld name s)))))
+
+-- What a line holds.
 unfoldable pub contentOf : List ℕ → Content
-contentOf s =
-    pick (same (lettersAt s 1) (text "loan")) (loanHeld s)
-    (pick (same (lettersAt s 1) (text "policy")) (policyHeld s)
-    (pick (same (lettersAt s 1) (text "deriv")) (derivativeHeld s)
-    (pick (same (lettersAt s 1) (text "asset")) (assetHeld s)
-    (pick (same (lettersAt s 1) (text "book")) (headerHeld s) (amountHeld (lettersAt s 1) s)))))
+contentOf s = heldAs (placeOf (lettersAt s 1) names) s
 
 -- The answer for what a line after the header holds: the number of 01's refusal, or the line's values (01, "Who can be turned down").
 unfoldable pub lineFor : Content → Line
