@@ -12,7 +12,6 @@ use line_forms::Item;
 use line_forms::Kind;
 use line_forms::Loan;
 use line_forms::Policy;
-use loan_charge::Score;
 
 fn header(line: &[u8]) -> Content
     ensures { λ r. ⌜ r ≡ headerHeld (now (line .entry)) ⌝ }
@@ -39,30 +38,16 @@ fn loan(line: &[u8]) -> Content
     let value = line_fields::number_after(line, balance.next, b") (val ");
     let amortization = line_fields::number_after(line, value.next, b") (amort ");
     let term = line_fields::number_after(line, amortization.next, b") (term ");
-    let number = line_fields::number_after(line, term.next, b") (score ");
-    let age = line_fields::number_after(line, number.next, b" ");
-    let supplement = line_fields::number_after(line, age.next, b") (sup ");
+    let score = line_fields::score_after(line, term.next, b") (score ");
+    let supplement = line_fields::number_after(line, score.next, b") (sup ");
     if line_fields::skip(line, supplement.next, b"))") == line.len() {
+        let q = score.score;
         return Content::Loan(Loan {
             balance: balance.value,
             value: value.value,
             amortization: amortization.value,
             term: term.value,
-            score: Score::Scored {
-                number: number.value,
-                age: age.value,
-            },
-            supplement: supplement.value,
-        });
-    }
-    let supplement = line_fields::number_after(line, term.next, b") (score none) (sup ");
-    if line_fields::skip(line, supplement.next, b"))") == line.len() {
-        return Content::Loan(Loan {
-            balance: balance.value,
-            value: value.value,
-            amortization: amortization.value,
-            term: term.value,
-            score: Score::Unscored,
+            score: q,
             supplement: supplement.value,
         });
     }

@@ -4,13 +4,19 @@ ghost use lib.ListN.{drop};
 ghost use Rattle.line_forms.specs.Bytes.{same as sameBytes, after, runOf, within};
 ghost use Rattle.line_forms.specs.Forms.{choicesOf};
 ghost use Rattle.line_forms.specs.Numerals.{numberOf};
-ghost use Rattle.line_forms.specs.Parsing.{numberAt, afterNumber, minusAt, signedAt, afterSigned, negativeAt, afterNegative, placeOf, afterWord, lettersAt};
+ghost use Rattle.line_forms.specs.Parsing.{numberAt, afterNumber, minusAt, signedAt, afterSigned, negativeAt, afterNegative, placeOf, afterWord, lettersAt, scoreAt, afterScore};
 use fixed_point::Signed;
 use line_forms::Number;
+use loan_charge::Score;
 
 // A field's value and the position after it; past the end of the line where the field does not stand there.
 pub struct Found {
     pub value: u64,
+    pub next: usize,
+}
+
+pub struct FoundScore {
+    pub score: Score,
     pub next: usize,
 }
 
@@ -232,4 +238,35 @@ pub fn word_after(line: &[u8], at: usize, text: &[u8], choices: &[u8]) -> Found
         (r .next ≡ afterWord (choicesOf (now (choices .entry))) (now (line .entry)) (after (now (line .entry)) at (now (text .entry)))) ⌝ }
 {
     word_at(line, skip(line, at, text), choices)
+}
+
+// The score at a position, with its age, or the word `none`.
+pub fn score_at(line: &[u8], at: usize) -> FoundScore
+    ensures { λ r. ⌜ (r .score ≡ scoreAt (now (line .entry)) at) × (r .next ≡ afterScore (now (line .entry)) at) ⌝ }
+{
+    let word = run(line, at, b'a', b'z');
+    if same(word, b"none") {
+        return FoundScore {
+            score: Score::Unscored,
+            next: at + word.len(),
+        };
+    }
+    let number = number_at(line, at);
+    let age = number_after(line, number.next, b" ");
+    FoundScore {
+        score: Score::Scored {
+            number: number.value,
+            age: age.value,
+        },
+        next: age.next,
+    }
+}
+
+// A score after a text.
+pub fn score_after(line: &[u8], at: usize, text: &[u8]) -> FoundScore
+    ensures { λ r.
+        ⌜ (r .score ≡ scoreAt (now (line .entry)) (after (now (line .entry)) at (now (text .entry)))) ×
+        (r .next ≡ afterScore (now (line .entry)) (after (now (line .entry)) at (now (text .entry)))) ⌝ }
+{
+    score_at(line, skip(line, at, text))
 }

@@ -16,8 +16,8 @@ use Rattle.line_forms.specs.Bytes.{past, after, runOf, same, allWithin}
 use Rattle.line_forms.specs.Numerals.{isNumeral, limit}
 use Rattle.line_forms.specs.Forms.{number, Form, field, end, Values, AllWritable, formText}
 use Rattle.line_forms.specs.Parsing.{afterNumber, valuesAt, afterForm, hasForm, lettersAt, placeOf}
-use Rattle.line_forms.specs.Contents.{headerForm, headerValues, scoredLoan, unscoredLoan, loanForm, loanValues, policyForm, policyValues, classPlace, derivativeForm, derivativeValues, kindPlace, assetForm, assetValues, plainForm, signedForm, amountForm, amountValues, bytesOf, SignFits, Written}
-use Rattle.line_forms.specs.Readings.{headerWith, scoredLoanWith, unscoredLoanWith, policyWith, classAt, derivativeWith, kindAt, assetWith, unsigned, headerHeld, loanHeld, policyHeld, derivativeHeld, assetHeld, plainHeld, signedHeld, names, amountHeld, heldAs, contentOf}
+use Rattle.line_forms.specs.Contents.{headerForm, headerValues, loanForm, loanValues, policyForm, policyValues, classPlace, derivativeForm, derivativeValues, kindPlace, assetForm, assetValues, plainForm, signedForm, amountForm, amountValues, bytesOf, SignFits, Written}
+use Rattle.line_forms.specs.Readings.{headerWith, loanWith, policyWith, classAt, derivativeWith, kindAt, assetWith, unsigned, headerHeld, loanHeld, policyHeld, derivativeHeld, assetHeld, plainHeld, signedHeld, names, amountHeld, heldAs, contentOf}
 use Rattle.fixed_point.specs.declared.Signed.{Signed}
 use Rattle.line_forms.specs.declared.Header.{Header}
 use Rattle.line_forms.specs.declared.Loan.{Loan}
@@ -74,13 +74,9 @@ proper-header : proper headerForm ≡ true
 unfolding stops spelled among same allWithin
 proper-header = refl
 
-proper-scored : proper scoredLoan ≡ true
+proper-loan : proper loanForm ≡ true
 unfolding stops
-proper-scored = refl
-
-proper-unscored : proper unscoredLoan ≡ true
-unfolding stops
-proper-unscored = refl
+proper-loan = refl
 
 proper-policy : proper policyForm ≡ true
 unfolding stops spelled among same allWithin
@@ -117,11 +113,7 @@ header-right s =
 loan-right : (s : List ℕ) → Right s (loanHeld s)
 unfolding loanHeld bytesOf
 loan-right s =
-    held-right scoredLoan s (λ v. loan (scoredLoanWith v))
-    (pick (hasForm unscoredLoan s) (loan (unscoredLoanWith (valuesAt unscoredLoan s 0))) NoForm)
-    proper-scored
-    (λ v k. inr (k .1, k .0))
-    (held-right unscoredLoan s (λ v. loan (unscoredLoanWith v)) NoForm proper-unscored (λ v k. inr (k .1, k .0)) (inl refl))
+    held-right loanForm s (λ v. loan (loanWith v)) NoForm proper-loan (λ v k. inr (k .1, k .0)) (inl refl)
 
 policy-right : (s : List ℕ) → Right s (policyHeld s)
 unfolding policyHeld bytesOf
@@ -207,6 +199,12 @@ header-written s h w e =
     named s (text "book") _ 4 (header h) refl refl e
     (held headerForm s (λ v. header (headerWith v)) NoForm (headerValues h) proper-header e w ∙ aged-back h (h .aged) refl)
 
+loan-written : (s : List ℕ) (l : Loan) → Written (loan l) → s ≡ bytesOf (loan l) → contentOf s ≡ loan l
+unfolding bytesOf loanHeld placeOf same allWithin
+loan-written s l w e =
+    named s (text "loan") _ 0 (loan l) refl refl e
+    (held loanForm s (λ v. loan (loanWith v)) NoForm (loanValues l) proper-loan e w)
+
 class-back : (p : Policy) (q : Class) → q ≡ p .class → policy (record { class = classAt (classPlace q); premium = p .premium; term = p .term; completed = p .completed }) ≡ policy p
 class-back p Home e = ap (λ (q : Class). policy (record { class = q; premium = p .premium; term = p .term; completed = p .completed })) e
 class-back p Multi e = ap (λ (q : Class). policy (record { class = q; premium = p .premium; term = p .term; completed = p .completed })) e
@@ -269,67 +267,11 @@ amount-written s B n w z e =
 amount-written s C n w z e =
     named s (text "c") _ 11 _ refl refl e (plain-written C (text "(c ") s (n .plus) (w .0) e ∙ unsigned-back C n z)
 
--- Loans. A line with (score none) has not the other form: where a number would begin, none stands.
-abbrev withScore : Loan → Score → Loan
-withScore l q = record { balance = l .balance; value = l .value; amortization = l .amortization; term = l .term; score = q; supplement = l .supplement }
-
-no-digits : (s : List ℕ) (at : ℕ) (r : List ℕ) → drop at s ≡ r → runOf 48 57 r ≡ [] → afterNumber s at ≡ past s
-unfolding afterNumber isNumeral allWithin
-no-digits s at r e d = rw (e, d)
-
--- the forms of an unscored loan from its second field on, and of a scored one from its score on
-abbrev unscored5 : Form
-unscored5 = field (text ") (score none) (sup ") number (end (text "))"))
-
-abbrev unscored4 : Form
-unscored4 = field (text ") (term ") number unscored5
-
-abbrev unscored3 : Form
-unscored3 = field (text ") (amort ") number unscored4
-
-abbrev unscored2 : Form
-unscored2 = field (text ") (val ") number unscored3
-
-abbrev scored6 : Form
-scored6 = field (text " ") number (field (text ") (sup ") number (end (text "))")))
-
-no-score : (s : List ℕ) (at n : ℕ) → at ≤ length s → drop at s ≡ formText unscored5 (n, tt) → length s < afterForm scored6 s (afterNumber s (after s at (text ") (score ")))
-unfolding runOf stops
-no-score s at n l e =
-    let x : List ℕ = text "none) (sup " ++ formText (field [] number (end (text "))"))) (n, tt) in
-    let a : after s at (text ") (score ") ≡ at + 9 = text-stands s at (text ") (score ") x l e in
-    let b : drop (at + 9) s ≡ x = rest-after s at (text ") (score ") x l e .1 in
-    rw (a, no-digits s (at + 9) x b refl) (form-past scored6 s (past s) refl (omega arith))
-
-unscored-only : (s : List ℕ) (l : Loan) → AllWritable unscoredLoan (loanValues Unscored l) → s ≡ formText unscoredLoan (loanValues Unscored l) → hasForm scoredLoan s ≡ false
-unfolding stops
-unscored-only s l w e =
-    let v = loanValues Unscored l in
-    let a = form-step (text "(loan (bal ") number unscored2 s 0 v refl (omega arith) e w in
-    let b = form-step (text ") (val ") number unscored3 s (a .0) (v .1) refl (a .2) (a .3) (w .1) in
-    let c = form-step (text ") (amort ") number unscored4 s (b .0) (v .1 .1) refl (b .2) (b .3) (w .1 .1) in
-    let d = form-step (text ") (term ") number unscored5 s (c .0) (v .1 .1 .1) refl (c .2) (c .3) (w .1 .1 .1) in
-    rw (a .1, b .1, c .1, d .1)
-    (ne-eqb (afterForm scored6 s (afterNumber s (after s (d .0) (text ") (score ")))) (length s)
-    (λ h. omega (arith, no-score s (d .0) (l .supplement) (d .2) (d .3))))
-
-loan-written : (s : List ℕ) (q : Score) (l : Loan) → l .score ≡ q → AllWritable (loanForm q) (loanValues q l) → s ≡ formText (loanForm q) (loanValues q l) → contentOf s ≡ loan l
-unfolding loanHeld placeOf same allWithin
-loan-written s (Scored n age) l z w e =
-    named s (text "loan") _ 0 (loan l) refl refl e
-    (held scoredLoan s (λ v. loan (scoredLoanWith v)) (pick (hasForm unscoredLoan s) (loan (unscoredLoanWith (valuesAt unscoredLoan s 0))) NoForm) (loanValues (Scored n age) l) proper-scored e w ∙
-    ap (λ (x : Score). loan (withScore l x)) (sym z))
-loan-written s Unscored l z w e =
-    named s (text "loan") _ 0 (loan l) refl refl e
-    (rw (unscored-only s l w e)
-    (held unscoredLoan s (λ v. loan (unscoredLoanWith v)) NoForm (loanValues Unscored l) proper-unscored e w ∙
-    ap (λ (x : Score). loan (withScore l x)) (sym z)))
-
 -- The bytes of what a line can hold are read as that.
 pub content-written : (s : List ℕ) (c : Content) → Written c → s ≡ bytesOf c → contentOf s ≡ c
 unfolding bytesOf
 content-written s (header h) w e = header-written s h w e
-content-written s (loan l) w e = loan-written s (l .score) l refl w e
+content-written s (loan l) w e = loan-written s l w e
 content-written s (policy p) w e = policy-written s p w e
 content-written s (derivative d) w e = derivative-written s d w e
 content-written s (asset a) w e = asset-written s a w e

@@ -12,7 +12,8 @@ use Rattle.line_forms.specs.Bytes.{past, after, runOf, within}
 use Rattle.line_forms.specs.Forms.{Field, Form, field, end, Values, Writable, AllWritable, fieldText, formText}
 use Rattle.line_forms.specs.Parsing.{fieldAt, afterField, valuesAt, afterForm, hasForm}
 use Rattle.line_forms.proofs.Bytes.{and-both, rest-after, text-stands, Stands, text-cases, after-past}
-use Rattle.line_forms.proofs.FieldLaws.{Ends, properField, field-written, FieldRead, field-read, field-past}
+use Rattle.line_forms.proofs.NumberLaws.{Ends}
+use Rattle.line_forms.proofs.FieldLaws.{properField, field-written, FieldRead, field-read, field-past}
 
 -- neither a digit nor a letter comes first
 unfoldable pub stops : List ℕ → Bool

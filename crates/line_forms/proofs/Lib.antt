@@ -7,6 +7,8 @@ pub mod FieldLaws
 pub mod FormLaws
 pub mod HeaderLaws
 pub mod LineLaws
+pub mod NumberLaws
 pub mod Numerals
 pub mod Positions
+pub mod ScoreLaws
 pub mod Sizes

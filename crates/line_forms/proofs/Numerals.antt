@@ -281,3 +281,6 @@ decimal-first n r h = first (decimal n) (written 13 n h .some) (written 13 n h .
 
 pub decimal-short : (n : ℕ) → n < limit → length (decimal n) ≤ 14
 decimal-short n h = written 13 n h .short
+
+pub decimal-some : (n : ℕ) → n < limit → 0 < length (decimal n)
+decimal-some n h = written 13 n h .some

@@ -8,7 +8,7 @@ use Rattle.loan_charge.specs.declared.Score.the-variants.{Scored, Unscored}
 use Rattle.exact.specs.Text.{text}
 use Rattle.exact.specs.Choice.{pick}
 use Rattle.line_forms.specs.Bytes.{within, same}
-use Rattle.line_forms.specs.Forms.{choicesOf, Form, field, end, number, signed, word, Values, AllWritable, formText}
+use Rattle.line_forms.specs.Forms.{choicesOf, Form, field, end, number, signed, word, score, Values, AllWritable, formText}
 use Rattle.fixed_point.specs.declared.Signed.{Signed}
 use Rattle.line_forms.specs.declared.Header.{Header}
 use Rattle.line_forms.specs.declared.Loan.{Loan}
@@ -52,36 +52,19 @@ onAgedTable h = h .aged
 
 -- Loans.
 
--- (loan (bal D) (val D) (amort D) (term D) (score D D) (sup D))
-abbrev pub scoredLoan : Form
-scoredLoan =
+-- (loan (bal D) (val D) (amort D) (term D) (score D D) (sup D)), or (score none)
+abbrev pub loanForm : Form
+loanForm =
     field (text "(loan (bal ") number
     (field (text ") (val ") number
     (field (text ") (amort ") number
     (field (text ") (term ") number
-    (field (text ") (score ") number
-    (field (text " ") number
+    (field (text ") (score ") score
     (field (text ") (sup ") number
-    (end (text "))"))))))))
+    (end (text "))")))))))
 
--- the same with (score none)
-abbrev pub unscoredLoan : Form
-unscoredLoan =
-    field (text "(loan (bal ") number
-    (field (text ") (val ") number
-    (field (text ") (amort ") number
-    (field (text ") (term ") number
-    (field (text ") (score none) (sup ") number
-    (end (text "))"))))))
-
-abbrev pub loanForm : Score → Form
-loanForm (Scored n age) = scoredLoan
-loanForm Unscored = unscoredLoan
-
-abbrev pub loanValues : (q : Score) → Loan → Values (loanForm q)
-loanValues (Scored n age) l =
-    (l .balance, (l .value, (l .amortization, (l .term, (n, (age, (l .supplement, tt)))))))
-loanValues Unscored l = (l .balance, (l .value, (l .amortization, (l .term, (l .supplement, tt)))))
+abbrev pub loanValues : Loan → Values loanForm
+loanValues l = (l .balance, (l .value, (l .amortization, (l .term, (l .score, (l .supplement, tt))))))
 
 unfoldable pub scoreInRange : Score → Bool
 scoreInRange (Scored n age) = within 300 900 n && within 0 600 age
@@ -200,7 +183,7 @@ amountInRange a = moneyInRange (a .amount)
 
 abbrev pub formFor : Content → Form
 formFor (header h) = headerForm
-formFor (loan l) = loanForm (l .score)
+formFor (loan l) = loanForm
 formFor (policy p) = policyForm
 formFor (derivative d) = derivativeForm
 formFor (asset a) = assetForm
@@ -209,7 +192,7 @@ formFor NoForm = end []
 
 abbrev pub valuesFor : (c : Content) → Values (formFor c)
 valuesFor (header h) = headerValues h
-valuesFor (loan l) = loanValues (l .score) l
+valuesFor (loan l) = loanValues l
 valuesFor (policy p) = policyValues p
 valuesFor (derivative d) = derivativeValues d
 valuesFor (asset a) = assetValues a
@@ -233,7 +216,7 @@ SignFits C n = n .minus ≡ 0
 -- each number is one that its D or S can write
 abbrev pub Written : Content → Type 0
 Written (header h) = AllWritable headerForm (headerValues h)
-Written (loan l) = AllWritable (loanForm (l .score)) (loanValues (l .score) l)
+Written (loan l) = AllWritable loanForm (loanValues l)
 Written (policy p) = AllWritable policyForm (policyValues p)
 Written (derivative d) = AllWritable derivativeForm (derivativeValues d)
 Written (asset a) = AllWritable assetForm (assetValues a)

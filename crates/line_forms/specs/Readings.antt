@@ -3,12 +3,11 @@ use Prim.Native.Nat.{ℕ}
 use mathlib.Core.List.{List}
 use lib.Dec.{ltb, eqb}
 use lib.ListN.{length}
-use Rattle.loan_charge.specs.declared.Score.the-variants.{Scored, Unscored}
 use Rattle.exact.specs.Text.{text}
 use Rattle.exact.specs.Choice.{pick}
 use Rattle.line_forms.specs.Forms.{Values, choicesOf}
 use Rattle.line_forms.specs.Parsing.{valuesAt, hasForm, lettersAt, placeOf}
-use Rattle.line_forms.specs.Contents.{headerForm, headerInRange, scoredLoan, unscoredLoan, loanInRange, policyForm, policyInRange, derivativeForm, derivativeInRange, assetForm, assetInRange, plainForm, signedForm, amountInRange}
+use Rattle.line_forms.specs.Contents.{headerForm, headerInRange, loanForm, loanInRange, policyForm, policyInRange, derivativeForm, derivativeInRange, assetForm, assetInRange, plainForm, signedForm, amountInRange}
 use Rattle.fixed_point.specs.declared.Signed.{Signed}
 use Rattle.line_forms.specs.declared.Header.{Header}
 use Rattle.line_forms.specs.declared.Loan.{Loan}
@@ -38,24 +37,14 @@ headerWith v = record {
   held = v .1 .1 .1 .0;
 }
 
-abbrev pub scoredLoanWith : Values scoredLoan → Loan
-scoredLoanWith v = record {
+abbrev pub loanWith : Values loanForm → Loan
+loanWith v = record {
   balance = v .0;
   value = v .1 .0;
   amortization = v .1 .1 .0;
   term = v .1 .1 .1 .0;
-  score = Scored (v .1 .1 .1 .1 .0) (v .1 .1 .1 .1 .1 .0);
-  supplement = v .1 .1 .1 .1 .1 .1 .0;
-}
-
-abbrev pub unscoredLoanWith : Values unscoredLoan → Loan
-unscoredLoanWith v = record {
-  balance = v .0;
-  value = v .1 .0;
-  amortization = v .1 .1 .0;
-  term = v .1 .1 .1 .0;
-  score = Unscored;
-  supplement = v .1 .1 .1 .1 .0;
+  score = v .1 .1 .1 .1 .0;
+  supplement = v .1 .1 .1 .1 .1 .0;
 }
 
 abbrev pub classAt : ℕ → Class
@@ -97,9 +86,7 @@ unfoldable pub headerHeld : List ℕ → Content
 headerHeld s = pick (hasForm headerForm s) (header (headerWith (valuesAt headerForm s 0))) NoForm
 
 unfoldable pub loanHeld : List ℕ → Content
-loanHeld s =
-    pick (hasForm scoredLoan s) (loan (scoredLoanWith (valuesAt scoredLoan s 0)))
-    (pick (hasForm unscoredLoan s) (loan (unscoredLoanWith (valuesAt unscoredLoan s 0))) NoForm)
+loanHeld s = pick (hasForm loanForm s) (loan (loanWith (valuesAt loanForm s 0))) NoForm
 
 unfoldable pub policyHeld : List ℕ → Content
 policyHeld s = pick (hasForm policyForm s) (policy (policyWith (valuesAt policyForm s 0))) NoForm

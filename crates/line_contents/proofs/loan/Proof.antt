@@ -1,20 +1,19 @@
 -- `loan` meets its contract.
-use borrow.Author.Needs.{needs}
 use borrow.Author.Tests.{eq-eqb, ne-eqb}
 use Rattle.line_forms.specs.Readings.{loanHeld}
+use borrow.Author.Needs.{needs}
 use Rattle.line_contents.proofs.loan.Statement.{statement}
 use Rattle.line_contents.proofs.loan.Tie as tie
 
 returns : tie.Need-returns
 unfolding loanHeld
 returns c =
-    let n1 = c .before .before .before .before .before .before .before .before .before .before .before .before .before .before .before .number-after in
-    let n2 = c .before .before .before .before .before .before .before .before .before .before .before .before .before .number-after2 in
-    let n3 = c .before .before .before .before .before .before .before .before .before .before .before .number-after3 in
-    let n4 = c .before .before .before .before .before .before .before .before .before .number-after4 in
-    let n5 = c .before .before .before .before .before .before .before .number-after5 in
-    let n6 = c .before .before .before .before .before .number-after6 in
-    let n7 = c .before .before .before .number-after7 in
+    let n1 = c .before .before .before .before .before .before .before .before .before .before .before .before .before .number-after in
+    let n2 = c .before .before .before .before .before .before .before .before .before .before .before .number-after2 in
+    let n3 = c .before .before .before .before .before .before .before .before .before .number-after3 in
+    let n4 = c .before .before .before .before .before .before .before .number-after4 in
+    let n5 = c .before .before .before .before .before .score-after in
+    let n6 = c .before .before .before .number-after5 in
     rw (
       ← n1 .ensures .1,
       ← n2 .ensures .1,
@@ -22,7 +21,6 @@ returns c =
       ← n4 .ensures .1,
       ← n5 .ensures .1,
       ← n6 .ensures .1,
-      ← n7 .ensures .1,
       ← c .before .skip .ensures,
       eq-eqb _ _ (c .if1 .taken),
       ← n1 .ensures .0,
@@ -31,20 +29,17 @@ returns c =
       ← n4 .ensures .0,
       ← n5 .ensures .0,
       ← n6 .ensures .0,
-      ← n7 .ensures .0,
     )
 
 returns-2 : tie.Need-returns-2
 unfolding loanHeld
 returns-2 c =
-    let n1 = c .before .before .before .before .before .before .before .before .before .before .before .before .before .before .before .before .before .before .before .before .number-after in
-    let n2 = c .before .before .before .before .before .before .before .before .before .before .before .before .before .before .before .before .before .before .number-after2 in
-    let n3 = c .before .before .before .before .before .before .before .before .before .before .before .before .before .before .before .before .number-after3 in
-    let n4 = c .before .before .before .before .before .before .before .before .before .before .before .before .before .before .number-after4 in
-    let n5 = c .before .before .before .before .before .before .before .before .before .before .before .before .number-after5 in
-    let n6 = c .before .before .before .before .before .before .before .before .before .before .number-after6 in
-    let n7 = c .before .before .before .before .before .before .before .before .number-after7 in
-    let n8 = c .before .before .before .number-after8 in
+    let n1 = c .before .before .before .before .before .before .before .before .before .before .before .before .before .number-after in
+    let n2 = c .before .before .before .before .before .before .before .before .before .before .before .number-after2 in
+    let n3 = c .before .before .before .before .before .before .before .before .before .number-after3 in
+    let n4 = c .before .before .before .before .before .before .before .number-after4 in
+    let n5 = c .before .before .before .before .before .score-after in
+    let n6 = c .before .before .before .number-after5 in
     rw (
       ← n1 .ensures .1,
       ← n2 .ensures .1,
@@ -52,43 +47,8 @@ returns-2 c =
       ← n4 .ensures .1,
       ← n5 .ensures .1,
       ← n6 .ensures .1,
-      ← n7 .ensures .1,
-      ← c .before .before .before .before .before .before .skip .ensures,
-      ne-eqb _ _ (c .before .before .before .before .before .if1 .left),
-      ← n8 .ensures .1,
-      ← c .before .skip2 .ensures,
-      eq-eqb _ _ (c .if2 .taken),
-      ← n1 .ensures .0,
-      ← n2 .ensures .0,
-      ← n3 .ensures .0,
-      ← n4 .ensures .0,
-      ← n8 .ensures .0,
-    )
-
-returns-3 : tie.Need-returns-3
-unfolding loanHeld
-returns-3 c =
-    let n1 = c .before .before .before .before .before .before .before .before .before .before .before .before .before .before .before .before .before .before .before .before .number-after in
-    let n2 = c .before .before .before .before .before .before .before .before .before .before .before .before .before .before .before .before .before .before .number-after2 in
-    let n3 = c .before .before .before .before .before .before .before .before .before .before .before .before .before .before .before .before .number-after3 in
-    let n4 = c .before .before .before .before .before .before .before .before .before .before .before .before .before .before .number-after4 in
-    let n5 = c .before .before .before .before .before .before .before .before .before .before .before .before .number-after5 in
-    let n6 = c .before .before .before .before .before .before .before .before .before .before .number-after6 in
-    let n7 = c .before .before .before .before .before .before .before .before .number-after7 in
-    let n8 = c .before .before .before .number-after8 in
-    rw (
-      ← n1 .ensures .1,
-      ← n2 .ensures .1,
-      ← n3 .ensures .1,
-      ← n4 .ensures .1,
-      ← n5 .ensures .1,
-      ← n6 .ensures .1,
-      ← n7 .ensures .1,
-      ← c .before .before .before .before .before .before .skip .ensures,
-      ne-eqb _ _ (c .before .before .before .before .before .if1 .left),
-      ← n8 .ensures .1,
-      ← c .before .skip2 .ensures,
-      ne-eqb _ _ (c .if2 .left),
+      ← c .before .skip .ensures,
+      ne-eqb _ _ (c .if1 .left),
     )
 
 pub loan-spec : {M : Type 1} → statement M
@@ -109,12 +69,5 @@ loan-spec =
     (λ c κs. search needs)
     (λ c. search needs)
     (λ c κs. search needs)
-    (λ c. search needs)
-    (λ c κs. search needs)
     returns
-    (λ c. search needs)
-    (λ c κs. search needs)
-    (λ c. search needs)
-    (λ c κs. search needs)
-    returns-2
-    returns-3)
+    returns-2)
