@@ -1,5 +1,8 @@
 // A reader for each form, and which of them a line's name asks for: from the bytes of a line to the data it holds.
+ghost use mathlib.Core.Bool.{true, false};
 ghost use mathlib.Core.Path.{_≡_};
+ghost use Rattle.exact.specs.Text.{text};
+ghost use Rattle.line_forms.specs.Bytes.{standsAt};
 ghost use Rattle.line_forms.specs.Readings.{classAt, kindAt, headerHeld, loanHeld, policyHeld, derivativeHeld, assetHeld, plainHeld, signedHeld, contentOf};
 use fixed_point::Signed;
 use line_forms::Amount;
@@ -31,15 +34,32 @@ fn header(line: &[u8]) -> Content
     Content::NoForm
 }
 
+// A line that begins as a loan. Each text that does not stand ends the reading, so that the next field is begun before the text is compared.
 fn loan(line: &[u8]) -> Content
+    requires { ⌜ standsAt (now line) 0 (text "(loan (bal ") ≡ true ⌝ }
     ensures { λ r. ⌜ r ≡ loanHeld (now (line .entry)) ⌝ }
 {
-    let balance = line_fields::number_after(line, 0, b"(loan (bal ");
-    let value = line_fields::number_after(line, balance.next, b") (val ");
-    let amortization = line_fields::number_after(line, value.next, b") (amort ");
-    let term = line_fields::number_after(line, amortization.next, b") (term ");
-    let score = line_fields::score_after(line, term.next, b") (score ");
-    let supplement = line_fields::number_after(line, score.next, b") (sup ");
+    let balance = line_fields::long_at(line, 11);
+    if !line_fields::stands(line, balance.next, b") (val ") {
+        return Content::NoForm;
+    }
+    let value = line_fields::long_at(line, balance.next + 7);
+    if !line_fields::stands(line, value.next, b") (amort ") {
+        return Content::NoForm;
+    }
+    let amortization = line_fields::short_at(line, value.next + 9);
+    if !line_fields::stands(line, amortization.next, b") (term ") {
+        return Content::NoForm;
+    }
+    let term = line_fields::short_at(line, amortization.next + 8);
+    if !line_fields::stands(line, term.next, b") (score ") {
+        return Content::NoForm;
+    }
+    let score = line_fields::score_at(line, term.next + 9);
+    if !line_fields::stands(line, score.next, b") (sup ") {
+        return Content::NoForm;
+    }
+    let supplement = line_fields::short_at(line, score.next + 7);
     if line_fields::skip(line, supplement.next, b"))") == line.len() {
         let q = score.score;
         return Content::Loan(Loan {
@@ -165,8 +185,9 @@ fn signed(line: &[u8], item: Item, text: &[u8]) -> Content
     Content::NoForm
 }
 
-// What a line holds, by the name after its opening bracket.
-pub fn content(line: &[u8]) -> Content
+// What a line that does not begin as a loan holds, by the name after its opening bracket.
+fn other(line: &[u8]) -> Content
+    requires { ⌜ standsAt (now line) 0 (text "(loan (bal ") ≡ false ⌝ }
     ensures { λ r. ⌜ r ≡ contentOf (now (line .entry)) ⌝ }
 {
     let name = line_fields::word_at(
@@ -176,7 +197,7 @@ pub fn content(line: &[u8]) -> Content
     );
     let place = name.value;
     match place {
-        0 => loan(line),
+        0 => Content::NoForm,
         1 => policy(line),
         2 => derivative(line),
         3 => asset(line),
@@ -190,4 +211,14 @@ pub fn content(line: &[u8]) -> Content
         11 => plain(line, Item::C, b"(c "),
         _ => Content::NoForm,
     }
+}
+
+// What a line holds. Most lines are loans, so this form is tried first.
+pub fn content(line: &[u8]) -> Content
+    ensures { λ r. ⌜ r ≡ contentOf (now (line .entry)) ⌝ }
+{
+    if line_fields::stands(line, 0, b"(loan (bal ") {
+        return loan(line);
+    }
+    other(line)
 }

@@ -12,10 +12,10 @@ use Rattle.loan_charge.specs.declared.Score.{Score}
 use Rattle.loan_charge.specs.declared.Score.the-variants.{Scored, Unscored}
 use Rattle.exact.specs.Text.{text}
 use Rattle.exact.specs.Choice.{pick}
-use Rattle.line_forms.specs.Bytes.{past, after, runOf, same, allWithin}
+use Rattle.line_forms.specs.Bytes.{past, standsAt, after, runOf, same, allWithin}
 use Rattle.line_forms.specs.Numerals.{isNumeral, limit}
 use Rattle.line_forms.specs.Forms.{number, Form, field, end, Values, AllWritable, formText}
-use Rattle.line_forms.specs.Parsing.{afterNumber, valuesAt, afterForm, hasForm, lettersAt, placeOf}
+use Rattle.line_forms.specs.Parsing.{valuesAt, afterForm, hasForm, lettersAt, placeOf}
 use Rattle.line_forms.specs.Contents.{headerForm, headerValues, loanForm, loanValues, policyForm, policyValues, classPlace, derivativeForm, derivativeValues, kindPlace, assetForm, assetValues, plainForm, signedForm, amountForm, amountValues, bytesOf, SignFits, Written}
 use Rattle.line_forms.specs.Readings.{headerWith, loanWith, policyWith, classAt, derivativeWith, kindAt, assetWith, unsigned, headerHeld, loanHeld, policyHeld, derivativeHeld, assetHeld, plainHeld, signedHeld, names, amountHeld, heldAs, contentOf}
 use Rattle.fixed_point.specs.declared.Signed.{Signed}
@@ -32,9 +32,9 @@ use Rattle.line_forms.specs.declared.Item.{Item}
 use Rattle.line_forms.specs.declared.Item.the-variants.{Claims, Lossc, Stated, Equity as EquityItem, Aoci, B, C}
 use Rattle.line_forms.specs.declared.Content.{Content}
 use Rattle.line_forms.specs.declared.Content.the-variants.{Header as header, Loan as loan, Policy as policy, Derivative as derivative, Asset as asset, Amount as amount, NoForm}
-use Rattle.line_forms.proofs.Bytes.{rest-after, text-stands, run-exact}
+use Rattle.line_forms.proofs.Bytes.{run-exact, Stands, text-cases, stands-fits, after-true}
 use Rattle.line_forms.proofs.FieldLaws.{among, spelled}
-use Rattle.line_forms.proofs.FormLaws.{stops, proper, form-of, form-has, form-past, form-step}
+use Rattle.line_forms.proofs.FormLaws.{stops, proper, form-of, form-has, firstText, later, proper-later, form-stops}
 
 -- From a line to what it holds: the line is the bytes of that.
 
@@ -184,6 +184,26 @@ unfolding contentOf runOf
 named s w y place c l p e h =
     let d : lettersAt s 1 ≡ w = rw e (run-exact 97 122 w (32 ∷ y) l refl) in
     rw (d, p) h
+
+-- a line that begins as a loan is read as one, and no other is
+pub loan-begins : (s : List ℕ) → standsAt s 0 (text "(loan (bal ") ≡ true → contentOf s ≡ loanHeld s
+unfolding placeOf same allWithin
+loan-begins s h =
+    let e : s ≡ text "(loan (bal " ++ drop 11 s = begun (text-cases s 0 (text "(loan (bal ")) in
+    named s (text "loan") (text "(bal " ++ drop 11 s) 0 (loanHeld s) refl refl e refl
+  where
+    begun : Stands s 0 (text "(loan (bal ") ⊎ (after s 0 (text "(loan (bal ") ≡ past s) → s ≡ text "(loan (bal " ++ drop 11 s
+    begun (inl k) = k .text
+    begun (inr k) =
+        absurd (omega (arith, after-true s 0 (text "(loan (bal ") h, stands-fits s 0 (text "(loan (bal ") h))
+
+-- nor is one whose text after n fields does not stand
+pub loan-stops : (n : ℕ) (s : List ℕ) (at : ℕ) → standsAt s at (firstText (later n loanForm)) ≡ false → eqb (afterForm (later n loanForm) s at) (length s) ≡ false
+loan-stops n s at h = form-stops (later n loanForm) s at (proper-later n loanForm proper-loan) h
+
+pub no-loan : (s : List ℕ) → standsAt s 0 (text "(loan (bal ") ≡ false → NoForm ≡ loanHeld s
+unfolding loanHeld
+no-loan s h = rw (form-stops loanForm s 0 proper-loan h)
 
 -- what is read of a form's bytes
 held : (f : Form) (s : List ℕ) (make : Values f → Content) (other : Content) (v : Values f) → proper f ≡ true → s ≡ formText f v → AllWritable f v → pick (hasForm f s) (make (valuesAt f s 0)) other ≡ make v

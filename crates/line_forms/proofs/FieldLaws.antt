@@ -13,7 +13,7 @@ use Rattle.exact.specs.Choice.{pick}
 use Rattle.line_forms.specs.Bytes.{past, allWithin, same}
 use Rattle.line_forms.specs.Forms.{Field, number, signed, word, score, Value, Writable, fieldText}
 use Rattle.line_forms.specs.Parsing.{lettersAt, placeOf, afterWord, fieldAt, afterField}
-use Rattle.line_forms.proofs.Bytes.{and-both, same-eq, same-refl, run-split, run-exact, run-end, rest-after}
+use Rattle.line_forms.proofs.Bytes.{and-both, or-false, same-eq, same-refl, run-split, run-exact, run-end, rest-after}
 use Rattle.line_forms.proofs.NumberLaws.{Ends, number-written, number-read, number-past, signed-written, signed-read, signed-past}
 use Rattle.line_forms.proofs.ScoreLaws.{score-written, score-read, score-past}
 
@@ -51,10 +51,6 @@ word-letters : (choices : List (List ℕ)) (i : ℕ) → spelled choices ≡ tru
 word-letters [] i h l = absurd (omega arith)
 word-letters (w ∷ choices) zero h l = let k = spells w choices h in (k .some, k .letters)
 word-letters (w ∷ choices) (suc i) h l = word-letters choices i (spells w choices h .others) (omega arith)
-
-or-false : (a b : Bool) → (a || b) ≡ false → (a ≡ false) × (b ≡ false)
-or-false true b h = let z : _≡_ {A = ℕ} 0 1 = cc in absurd (omega (arith, z))
-or-false false b h = (refl, h)
 
 not-among : (w : List ℕ) (choices : List (List ℕ)) (i : ℕ) → among w choices ≡ false → i < length choices → same (getD choices i []) w ≡ false
 unfolding among

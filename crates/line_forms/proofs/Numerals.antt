@@ -3,27 +3,24 @@ use Prim.Native.Nat.{ℕ, zero, suc, _+_, _-_, _*_, _/_, _%_, _^_, _≤_, _<_}
 use native.Mathlib.Nat.{pow-suc, pow-le-pow-right, add-suc, add-zero, zero-add, suc-add, lt-of-lt-of-le, mul-le-mul-right}
 use native.Mathlib.Numerals.{add-one}
 use native.Mathlib.Omega.{arith}
-use mathlib.Core.Path.{_≡_, refl, sym, _∙_}
-use mathlib.Core.Bool.{true, false, _&&_, not}
+use mathlib.Core.Path.{_≡_, refl, sym, _∙_, ap}
+use mathlib.Core.Bool.{Bool, true, false, _&&_, _||_, not}
 use mathlib.Core.List.{List, [], _∷_, _++_, append-nil, append-assoc}
-use borrow.Author.Tests.{eq-eqb, ne-eqb, leb-true, ltb-true, le-leb, lt-leb, lt-ltb, le-ltb, not-true}
+use borrow.Author.Tests.{eq-eqb, ne-eqb, eqb-false, ltb-false, leb-true, ltb-true, le-leb, lt-leb, lt-ltb, le-ltb, not-true}
 use lib.Dec.{eqb, leb, ltb, lit<}
 use native.Mathlib.Decide.{decLt}
 use lib.ListN.{length, drop, getD, length-append, List·getD-append}
 use lib.Seq.{drop-cons}
 use Rattle.line_forms.specs.Bytes.{within, allWithin}
-use Rattle.line_forms.specs.Numerals.{isNumeral, valueFrom, numberOf, digitsOf, decimal, limit}
-use Rattle.line_forms.specs.declared.Number.the-variants.{Value, Missing}
-use Rattle.line_forms.proofs.Bytes.{false-and, and-both, within-bounds}
+use Rattle.line_forms.specs.Numerals.{isNumeral, valueFrom, digitsOf, decimal, limit}
+use Rattle.line_forms.proofs.Bytes.{false-and, and-both, or-false, within-bounds, all-append}
 
--- one digit more
-pub all-step : (t : List ℕ) (i : ℕ) → i < length t → within 48 57 (getD t i 0) ≡ true → allWithin 48 57 (drop i t) ≡ allWithin 48 57 (drop (i + 1) t)
+-- every byte of digits is one
+pub all-at : (t : List ℕ) (i : ℕ) → allWithin 48 57 t ≡ true → i < length t → (48 ≤ getD t i 0) × (getD t i 0 ≤ 57)
 unfolding allWithin
-all-step t i h e = rw (add-one, drop-cons t i 0 h, e)
-
-pub all-fails : (t : List ℕ) (i : ℕ) → i < length t → within 48 57 (getD t i 0) ≡ false → allWithin 48 57 (drop i t) ≡ false
-unfolding allWithin
-all-fails t i h e = rw (drop-cons t i 0 h, e)
+all-at [] i h l = absurd (omega arith)
+all-at (b ∷ t) zero h l = within-bounds 48 57 b (and-both (within 48 57 b) (allWithin 48 57 t) h .0)
+all-at (b ∷ t) (suc i) h l = all-at t i (and-both (within 48 57 b) (allWithin 48 57 t) h .1) (omega arith)
 
 pub value-step : (a : ℕ) (t : List ℕ) (i : ℕ) → i < length t → valueFrom a (drop i t) ≡ valueFrom (a * 10 + (getD t i 0 - 48)) (drop (i + 1) t)
 unfolding valueFrom
@@ -36,28 +33,52 @@ ten-more v d i h k = rw (add-one, pow-suc 10 i) (omega arith)
 pub below-limit : (v i : ℕ) → v < 10 ^ i → i ≤ 14 → v < 100000000000000
 below-limit v i h k = omega (arith, pow-le-pow-right {n = 10} (lit< tt) k)
 
--- why a part is no D, and that it is one
-pub missing-empty : (t : List ℕ) → length t ≡ 0 → Missing ≡ numberOf t
-unfolding numberOf isNumeral
-missing-empty t h = rw h
+-- what the test says
+pub record IsNumeral (t : List ℕ) : Type 0 where
+  pub some : 0 < length t
+  pub short : length t ≤ 14
+  pub leads : (eqb (getD t 0 0) 48 && ltb 1 (length t)) ≡ false
+  pub digits : allWithin 48 57 t ≡ true
 
-pub missing-long : (t : List ℕ) → 14 < length t → Missing ≡ numberOf t
-unfolding numberOf isNumeral
-missing-long t h = rw (lt-leb (length t) 14 h, false-and)
+pub is-numeral : (t : List ℕ) → isNumeral t ≡ true → IsNumeral t
+unfolding isNumeral
+is-numeral t h =
+    let a = and-both (ltb 0 (length t) && leb (length t) 14 && not (eqb (getD t 0 0) 48 && ltb 1 (length t))) (allWithin 48 57 t) h in
+    let b = and-both (ltb 0 (length t) && leb (length t) 14) (not (eqb (getD t 0 0) 48 && ltb 1 (length t))) (a .0) in
+    let e = and-both (ltb 0 (length t)) (leb (length t) 14) (b .0) in
+    record {
+      some = ltb-true 0 (length t) (e .0);
+      short = leb-true (length t) 14 (e .1);
+      leads = not-true (eqb (getD t 0 0) 48 && ltb 1 (length t)) (b .1);
+      digits = a .1;
+    }
 
-pub missing-zero : (t : List ℕ) → (eqb (getD t 0 0) 48 && ltb 1 (length t)) ≡ true → Missing ≡ numberOf t
-unfolding numberOf isNumeral
-missing-zero t e = rw (e, false-and)
+-- why digits are no D, and that they are one
+pub count-some : (n : ℕ) → (eqb n 0 || ltb 14 n) ≡ false → (0 < n) × (n ≤ 14)
+count-some n h =
+    let k = or-false (eqb n 0) (ltb 14 n) h in
+    let z : n ≡ 0 → ⊥ = eqb-false n 0 (k .0) in
+    (omega arith, ltb-false 14 n (k .1))
 
-pub missing-other : (t : List ℕ) → allWithin 48 57 t ≡ false → Missing ≡ numberOf t
-unfolding numberOf isNumeral
-missing-other t e = rw (e, false-and)
+pub none-count : (t : List ℕ) → (eqb (length t) 0 || ltb 14 (length t)) ≡ true → isNumeral t ≡ false
+none-count t h = go (isNumeral t) refl
+  where
+    go : (b : Bool) → isNumeral t ≡ b → isNumeral t ≡ false
+    go true e =
+        let k = is-numeral t e in
+        let z : length t ≡ 0 → ⊥ = λ q. omega (arith, k .some) in
+        let f : (eqb (length t) 0 || ltb 14 (length t)) ≡ false = rw (ne-eqb (length t) 0 z, le-ltb 14 (length t) (k .short)) in
+        let x : _≡_ {A = ℕ} 0 1 = cc (h, f) in
+        absurd (omega (arith, x))
+    go false e = e
 
-pub value-is : (t : List ℕ) → (length t ≡ 0 → ⊥) → length t ≤ 14 → (eqb (getD t 0 0) 48 && ltb 1 (length t)) ≡ false → allWithin 48 57 t ≡ true → Value (valueFrom 0 t) ≡ numberOf t
-unfolding numberOf isNumeral
-value-is t a b e f =
-    let h : 0 < length t = omega arith in
-    rw (lt-ltb 0 (length t) h, le-leb (length t) 14 b, e, f)
+pub none-zero : (t : List ℕ) → (eqb (getD t 0 0) 48 && ltb 1 (length t)) ≡ true → isNumeral t ≡ false
+unfolding isNumeral
+none-zero t e = rw (e, false-and)
+
+pub numeral-of : (t : List ℕ) → 0 < length t → length t ≤ 14 → (eqb (getD t 0 0) 48 && ltb 1 (length t)) ≡ false → allWithin 48 57 t ≡ true → isNumeral t ≡ true
+unfolding isNumeral
+numeral-of t a b e f = rw (lt-ltb 0 (length t) a, le-leb (length t) 14 b, e, f)
 
 -- A number's digits give the number back.
 
@@ -65,13 +86,6 @@ pub value-snoc : (a : ℕ) (t : List ℕ) (d : ℕ) → valueFrom a (t ++ (d ∷
 unfolding valueFrom
 value-snoc a [] d = refl
 value-snoc a (x ∷ t) d = value-snoc (a * 10 + (x - 48)) t d
-
-pub all-append : (low high : ℕ) (s t : List ℕ) → allWithin low high s ≡ true → allWithin low high t ≡ true → allWithin low high (s ++ t) ≡ true
-unfolding allWithin
-all-append low high [] t h k = k
-all-append low high (b ∷ s) t h k =
-    let e : (within low high b ≡ true) × (allWithin low high s ≡ true) = and-both (within low high b) (allWithin low high s) h in
-    rw (e .0) (all-append low high s t (e .1) k)
 
 -- the last digit
 last-value : (n : ℕ) → 48 + n % 10 - 48 ≡ n % 10
@@ -134,10 +148,6 @@ written (suc k) n h = elim (decLt n 10) [ yes l ↦ small l | no l ↦ large (wr
         rw (digits-more k n m) (more-digits k n (digitsOf k (n / 10)) m w)
 
 -- A number below the limit is written as a D, which gives it back.
-numeral-of : (t : List ℕ) → 0 < length t → length t ≤ 14 → (eqb (getD t 0 0) 48 && ltb 1 (length t)) ≡ false → allWithin 48 57 t ≡ true → isNumeral t ≡ true
-unfolding isNumeral
-numeral-of t a b e f = rw (lt-ltb 0 (length t) a, le-leb (length t) 14 b, e, f)
-
 pub decimal-numeral : (n : ℕ) → n < limit → isNumeral (decimal n) ≡ true
 decimal-numeral n h = elim (decLt n 10) [ yes l ↦ small l | no l ↦ large l ]
   where
@@ -226,26 +236,6 @@ alone d a b =
     let l : d - 48 < 10 = omega arith in
     let v : 48 + (d - 48) % 10 ≡ d = omega arith in
     (sym (digits-one 13 (d - 48) l ∙ rw v), omega arith)
-
--- what the test says
-record IsNumeral (t : List ℕ) : Type 0 where
-  some : 0 < length t
-  short : length t ≤ 14
-  leads : (eqb (getD t 0 0) 48 && ltb 1 (length t)) ≡ false
-  digits : allWithin 48 57 t ≡ true
-
-is-numeral : (t : List ℕ) → isNumeral t ≡ true → IsNumeral t
-unfolding isNumeral
-is-numeral t h =
-    let a = and-both (ltb 0 (length t) && leb (length t) 14 && not (eqb (getD t 0 0) 48 && ltb 1 (length t))) (allWithin 48 57 t) h in
-    let b = and-both (ltb 0 (length t) && leb (length t) 14) (not (eqb (getD t 0 0) 48 && ltb 1 (length t))) (a .0) in
-    let e = and-both (ltb 0 (length t)) (leb (length t) 14) (b .0) in
-    record {
-      some = ltb-true 0 (length t) (e .0);
-      short = leb-true (length t) 14 (e .1);
-      leads = not-true (eqb (getD t 0 0) 48 && ltb 1 (length t)) (b .1);
-      digits = a .1;
-    }
 
 pub numeral-decimal : (t : List ℕ) → isNumeral t ≡ true → (t ≡ decimal (valueFrom 0 t)) × (valueFrom 0 t < limit)
 unfolding valueFrom allWithin

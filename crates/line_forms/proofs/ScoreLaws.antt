@@ -11,12 +11,13 @@ use lib.Seq.{drop-drop}
 use Rattle.loan_charge.specs.declared.Score.{Score}
 use Rattle.loan_charge.specs.declared.Score.the-variants.{Scored, Unscored}
 use Rattle.exact.specs.Text.{text}
-use Rattle.line_forms.specs.Bytes.{past, after, runOf, allWithin, same, within}
-use Rattle.line_forms.specs.Numerals.{decimal, limit}
+use Rattle.line_forms.specs.Bytes.{past, standsAt, after, runOf, allWithin, same, within}
+use Rattle.line_forms.specs.Numerals.{decimal, limit, isNumeral}
 use Rattle.line_forms.specs.Forms.{scoreText, ScoreWritable}
-use Rattle.line_forms.specs.Parsing.{lettersAt, numberAt, afterNumber, noneAt, ageAfter, scoreAt, afterScore}
-use Rattle.line_forms.proofs.Bytes.{and-both, within-bounds, same-eq, run-split, run-exact, run-end, rest-after, text-stands, Stands, text-cases, after-past}
-use Rattle.line_forms.proofs.Numerals.{decimal-digits, decimal-some}
+use Rattle.line_forms.specs.Parsing.{digitsAt, lettersAt, numberAt, afterNumber, noneAt, ageAfter, scoreAt, afterScore}
+use Rattle.line_forms.proofs.Bytes.{and-both, within-bounds, same-eq, run-split, run-exact, run-end, rest-after, run-within, text-stands, Stands, stands-fits, after-true, after-false, text-cases, after-past}
+use Rattle.line_forms.proofs.Numerals.{decimal-digits, decimal-some, is-numeral}
+use Rattle.line_forms.proofs.Positions.{number-missing}
 use Rattle.line_forms.proofs.NumberLaws.{Ends, number-written, NumberRead, number-read, number-past}
 
 -- no letter comes before digits
@@ -95,3 +96,29 @@ score-past s at h =
     let k : length s ≤ at = omega arith in
     rw (run-end 97 122 s at k, number-past s at h, after-past s (past s) (text " ") (omega arith))
     (number-past s (past s) (omega arith))
+
+-- What a reader finds that tries the number first: a space after it, or the word, or neither.
+pub score-scored : (s : List ℕ) (at : ℕ) → standsAt s (afterNumber s at) (text " ") ≡ true → (Scored (numberAt s at) (numberAt s (afterNumber s at + 1)) ≡ scoreAt s at) × (afterNumber s (afterNumber s at + 1) ≡ afterScore s at)
+unfolding scoreAt afterScore same
+score-scored s at e =
+    let l = stands-fits s (afterNumber s at) (text " ") e in
+    let d : lettersAt s at ≡ [] = found (isNumeral (digitsAt s at)) refl (omega arith) in
+    let a : after s (afterNumber s at) (text " ") ≡ afterNumber s at + 1 = sym (after-true s (afterNumber s at) (text " ") e) in
+    (rw (d, a), rw (d, a))
+  where
+    found : (b : Bool) → isNumeral (digitsAt s at) ≡ b → afterNumber s at < past s → lettersAt s at ≡ []
+    found true h k =
+        rw (run-split 48 57 (drop at s))
+        (digits-first (digitsAt s at) (drop (length (digitsAt s at)) (drop at s)) (is-numeral (digitsAt s at) h .some) (run-within 48 57 (drop at s)))
+    found false h k = absurd (omega (arith, number-missing s at h .1))
+
+pub score-none : (s : List ℕ) (at : ℕ) (w : List ℕ) → w ≡ lettersAt s at → same w (text "none") ≡ true → (Unscored ≡ scoreAt s at) × (at + length w ≡ afterScore s at)
+unfolding scoreAt afterScore
+score-none s at w e h = (rw (← e, h), rw (← e, h))
+
+pub score-missing : (s : List ℕ) (at : ℕ) → standsAt s (afterNumber s at) (text " ") ≡ false → noneAt s at ≡ false → (Scored (numberAt s at) 0 ≡ scoreAt s at) × (past s ≡ afterScore s at)
+unfolding scoreAt afterScore isNumeral allWithin
+score-missing s at e d =
+    let k : length s ≤ past s = omega arith in
+    let m = number-missing s (past s) (rw (run-end 48 57 s (past s) k)) in
+    (rw (d, ← after-false s (afterNumber s at) (text " ") e, ← m .0), rw (d, ← after-false s (afterNumber s at) (text " ") e) (m .1))

@@ -6,8 +6,6 @@ use lib.Dec.{leb, ltb, eqb}
 use lib.ListN.{length, getD}
 use Rattle.exact.specs.Choice.{pick}
 use Rattle.line_forms.specs.Bytes.{allWithin}
-use Rattle.line_forms.specs.declared.Number.{Number}
-use Rattle.line_forms.specs.declared.Number.the-variants.{Value, Missing}
 use Rattle.fixed_point.specs.declared.Signed.{Signed}
 
 -- Writing. The digits are the bytes 48 to 57, the minus sign is 45.
@@ -40,7 +38,3 @@ isNumeral t =
 unfoldable pub valueFrom : ℕ → List ℕ → ℕ
 valueFrom a [] = a
 valueFrom a (d ∷ t) = valueFrom (a * 10 + (d - 48)) t
-
--- what a part of a line says as a D
-unfoldable pub numberOf : List ℕ → Number
-numberOf t = pick (isNumeral t) (Value (valueFrom 0 t)) Missing
