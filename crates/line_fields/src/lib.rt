@@ -1,8 +1,8 @@
 // Readers of a field: a text, a run of bytes, a number.
 ghost use mathlib.Core.Path.{_≡_};
-ghost use Prim.Native.Nat.{_≤_};
+ghost use Prim.Native.Nat.{_-_, _≤_, _<_};
 ghost use mathlib.Core.Bool.{true};
-ghost use lib.ListN.{length, drop};
+ghost use lib.ListN.{length, drop, getD};
 ghost use Rattle.line_forms.specs.Bytes.{same as sameBytes, standsAt, after, past, runOf, within, allWithin};
 ghost use Rattle.line_forms.specs.Forms.{choicesOf};
 ghost use Rattle.line_forms.specs.Numerals.{valueFrom};
@@ -170,6 +170,13 @@ fn many_digits(line: &[u8], at: usize) -> &[u8]
     run(line, at, b'0', b'9')
 }
 
+fn digit_at(digits: &[u8], i: usize) -> u64
+    requires { ⌜ (allWithin 48 57 (now digits) ≡ true) × (i < length (now digits)) ⌝ }
+    ensures { λ r. ⌜ (r ≡ getD (now (digits .entry)) i 0 - 48) × (r ≤ 9) ⌝ }
+{
+    wide(digits[i] - b'0')
+}
+
 fn value_of(digits: &[u8]) -> u64
     requires { ⌜ (allWithin 48 57 (now digits) ≡ true) × (length (now digits) ≤ 14) ⌝ }
     ensures { λ r. ⌜ r ≡ valueFrom 0 (now (digits .entry)) ⌝ }
@@ -177,10 +184,26 @@ fn value_of(digits: &[u8]) -> u64
     let mut value: u64 = 0;
     let mut i = 0;
     while i < digits.len() {
-        value = value * 10 + wide(digits[i] - b'0');
+        value = value * 10 + digit_at(digits, i);
         i += 1;
     }
     value
+}
+
+// The same of one to three digits, with no loop.
+fn few_value(digits: &[u8]) -> u64
+    requires { ⌜ (allWithin 48 57 (now digits) ≡ true) × (0 < length (now digits)) × (length (now digits) ≤ 3) ⌝ }
+    ensures { λ r. ⌜ r ≡ valueFrom 0 (now (digits .entry)) ⌝ }
+{
+    let one = digit_at(digits, 0);
+    if digits.len() == 1 {
+        return one;
+    }
+    let two = one * 10 + digit_at(digits, 1);
+    if digits.len() == 2 {
+        return two;
+    }
+    two * 10 + digit_at(digits, 2)
 }
 
 // The number reader: what the digits at a position, a part of the line, say as a D.
@@ -194,6 +217,12 @@ fn number(line: &[u8], at: usize, digits: &[u8]) -> Found
     }
     if (digits[0] == b'0') & (1 < n) {
         return missing(line);
+    }
+    if n <= 3 {
+        return Found {
+            value: few_value(digits),
+            next: at + n,
+        };
     }
     Found {
         value: value_of(digits),

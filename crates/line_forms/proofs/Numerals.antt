@@ -26,6 +26,28 @@ pub value-step : (a : ℕ) (t : List ℕ) (i : ℕ) → i < length t → valueFr
 unfolding valueFrom
 value-step a t i h = rw (add-one, drop-cons t i 0 h)
 
+-- the value of one, two or three digits
+pub value-one : (t : List ℕ) → length t ≡ 1 → getD t 0 0 - 48 ≡ valueFrom 0 t
+unfolding valueFrom
+value-one [] h = absurd (omega arith)
+value-one (a ∷ []) h = omega arith
+value-one (a ∷ b ∷ t) h = absurd (omega arith)
+
+pub value-two : (t : List ℕ) → length t ≡ 2 → (getD t 0 0 - 48) * 10 + (getD t 1 0 - 48) ≡ valueFrom 0 t
+unfolding valueFrom
+value-two [] h = absurd (omega arith)
+value-two (a ∷ []) h = absurd (omega arith)
+value-two (a ∷ b ∷ []) h = omega arith
+value-two (a ∷ b ∷ d ∷ t) h = absurd (omega arith)
+
+pub value-three : (t : List ℕ) → length t ≡ 3 → ((getD t 0 0 - 48) * 10 + (getD t 1 0 - 48)) * 10 + (getD t 2 0 - 48) ≡ valueFrom 0 t
+unfolding valueFrom
+value-three [] h = absurd (omega arith)
+value-three (a ∷ []) h = absurd (omega arith)
+value-three (a ∷ b ∷ []) h = absurd (omega arith)
+value-three (a ∷ b ∷ d ∷ []) h = omega arith
+value-three (a ∷ b ∷ d ∷ e ∷ t) h = absurd (omega arith)
+
 -- a number of i digits, i at most 14, and one digit more
 pub ten-more : (v d i : ℕ) → v < 10 ^ i → d ≤ 9 → v * 10 + d < 10 ^ (i + 1)
 ten-more v d i h k = rw (add-one, pow-suc 10 i) (omega arith)

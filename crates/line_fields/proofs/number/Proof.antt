@@ -2,7 +2,6 @@
 use mathlib.Core.Path.{_≡_, sym, _∙_, ap}
 use mathlib.Core.Bool.{true}
 use Rattle.line_forms.specs.Bytes.{allWithin}
-use Prim.Native.Nat.{_<_}
 use native.Mathlib.Omega.{arith}
 use lib.ListN.{length, drop}
 use Rattle.line_forms.proofs.Numerals.{count-some, none-count, none-zero, numeral-of}
@@ -28,25 +27,48 @@ returns-2 c =
     let m = number-missing (a .line .now) (a .at) (rw (← c .before .before .before .before .before .before .pre) (none-zero (a .digits .now) (c .before .if2 .taken))) in
     (c .missing2 .ensures .0 ∙ m .0, c .missing2 .ensures .1 ∙ m .1)
 
-value-of-requires : tie.Need-value-of-requires
-value-of-requires c κs =
-    let a = c .before .before .before .before .before .args in (
-      rw (c .before .before .before .before .before .pre) (run-within 48 57 (drop (a .at) (a .line .now))),
-      count-some (length (a .digits .now)) (c .before .before .if1 .left) .1,
+few-value-requires : tie.Need-few-value-requires
+few-value-requires c κs =
+    let s = c .before .before .before .before .before .before in (
+      rw (s .pre) (run-within 48 57 (drop (s .args .at) (s .args .line .now))),
+      count-some (length (s .args .digits .now)) (c .before .before .before .if1 .left) .0,
+      c .if3 .taken,
     )
 
 add-t11 : tie.Need-add-t11
 add-t11 c =
-    let a = c .before .before .before .before .before .before .args in
-    record { fits = omega (arith, ap length (c .before .before .before .before .before .before .pre), run-fits 48 57 (a .line .now) (a .at)) }
+    let s = c .before .before .before .before .before .before .before in
+    record { fits = omega (arith, ap length (s .pre), run-fits 48 57 (s .args .line .now) (s .args .at), s .good) }
 
 returns-3 : tie.Need-returns-3
 returns-3 c =
-    let a = c .before .before .before .before .before .before .args in
-    let k = count-some (length (a .digits .now)) (c .before .before .before .if1 .left) in
-    let t : allWithin 48 57 (a .digits .now) ≡ true = rw (c .before .before .before .before .before .before .pre) (run-within 48 57 (drop (a .at) (a .line .now))) in
-    let f = number-found (a .line .now) (a .at) (rw (← c .before .before .before .before .before .before .pre) (numeral-of (a .digits .now) (k .0) (k .1) (c .before .if2 .left) t)) in
-    (c .value-of .ensures ∙ rw (c .before .before .before .before .before .before .pre) (f .0), rw (c .before .before .before .before .before .before .pre) (f .1))
+    let s = c .before .before .before .before .before .before .before in
+    let a = s .args in
+    let k = count-some (length (a .digits .now)) (c .before .before .before .before .if1 .left) in
+    let t : allWithin 48 57 (a .digits .now) ≡ true = rw (s .pre) (run-within 48 57 (drop (a .at) (a .line .now))) in
+    let f = number-found (a .line .now) (a .at) (rw (← s .pre) (numeral-of (a .digits .now) (k .0) (k .1) (c .before .before .if2 .left) t)) in
+    (c .few-value .ensures ∙ rw (s .pre) (f .0), rw (s .pre) (f .1))
+
+value-of-requires : tie.Need-value-of-requires
+value-of-requires c κs =
+    let s = c .before .before .before .before .before .before in (
+      rw (s .pre) (run-within 48 57 (drop (s .args .at) (s .args .line .now))),
+      count-some (length (s .args .digits .now)) (c .before .before .before .if1 .left) .1,
+    )
+
+add-t13 : tie.Need-add-t13
+add-t13 c =
+    let s = c .before .before .before .before .before .before .before in
+    record { fits = omega (arith, ap length (s .pre), run-fits 48 57 (s .args .line .now) (s .args .at), s .good) }
+
+returns-4 : tie.Need-returns-4
+returns-4 c =
+    let s = c .before .before .before .before .before .before .before in
+    let a = s .args in
+    let k = count-some (length (a .digits .now)) (c .before .before .before .before .if1 .left) in
+    let t : allWithin 48 57 (a .digits .now) ≡ true = rw (s .pre) (run-within 48 57 (drop (a .at) (a .line .now))) in
+    let f = number-found (a .line .now) (a .at) (rw (← s .pre) (numeral-of (a .digits .now) (k .0) (k .1) (c .before .before .if2 .left) t)) in
+    (c .value-of .ensures ∙ rw (s .pre) (f .0), rw (s .pre) (f .1))
 
 pub number-spec : {M : Type 1} → statement M
 number-spec =
@@ -57,6 +79,9 @@ number-spec =
     shared-slice-read-if2
     (λ c κs. search needs)
     returns-2
-    value-of-requires
+    few-value-requires
     add-t11
-    returns-3)
+    returns-3
+    value-of-requires
+    add-t13
+    returns-4)

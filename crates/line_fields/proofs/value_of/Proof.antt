@@ -3,9 +3,9 @@ use mathlib.Core.Path.{_≡_, refl, sym, _∙_}
 use Prim.Native.Nat.{_-_, _^_, _≤_, _<_}
 use native.Mathlib.Omega.{arith}
 use mathlib.Core.List.{[]}
-use lib.ListN.{length, drop, getD, drop-of-length-le}
+use lib.ListN.{length, drop, drop-of-length-le}
 use Rattle.line_forms.specs.Numerals.{valueFrom}
-use Rattle.line_forms.proofs.Numerals.{all-at, value-step, ten-more, below-limit}
+use Rattle.line_forms.proofs.Numerals.{value-step, ten-more, below-limit}
 use borrow.Author.Needs.{needs}
 use Rattle.line_fields.proofs.value_of.Statement.{statement}
 use Rattle.line_fields.proofs.value_of.Tie as tie
@@ -25,24 +25,17 @@ mul-value c =
     let l = c .before .loop in
     record { fits = omega (arith, below-limit (l .value) (l .i) (l .inv .1) (omega arith)) }
 
-sub-wide : tie.Need-sub-wide Inv-loop μ-loop
-sub-wide c =
-    all-at (c .before .before .before .before .args .digits .now) (c .before .before .loop .i) (c .before .before .before .before .pre .0) (omega arith) .0
-
 add-value : tie.Need-add-value Inv-loop μ-loop
 add-value c =
-    let l = c .before .before .before .loop in
-    let k = all-at (c .before .before .before .before .before .args .digits .now) (l .i) (c .before .before .before .before .before .pre .0) (omega arith) in
+    let l = c .before .before .loop in
     record { fits = omega (arith, below-limit (l .value) (l .i) (l .inv .1) (omega arith)) }
 
 loop-again : tie.Need-loop-again Inv-loop μ-loop
 loop-again c =
-    let t = c .before .before .before .before .before .args .digits .now in
-    let l = c .before .before .before .loop in
-    let k = all-at t (l .i) (c .before .before .before .before .before .pre .0) (omega arith) in (
+    let l = c .before .before .loop in (
       search needs,
-      ten-more (l .value) (c .wide .result) (l .i) (l .inv .1) (omega arith),
-      l .inv .2 ∙ value-step (l .value) t (l .i) (omega arith) ∙ rw (c .wide .ensures),
+      ten-more (l .value) (c .digit-at .result) (l .i) (l .inv .1) (c .digit-at .ensures .1),
+      l .inv .2 ∙ value-step (l .value) (c .before .before .before .before .args .digits .now) (l .i) (omega arith) ∙ rw (c .digit-at .ensures .0),
     )
 
 returns : tie.Need-returns Inv-loop μ-loop
@@ -62,8 +55,6 @@ value-of-spec =
     μ-loop
     loop-holds
     mul-value
-    (λ c. search needs)
-    sub-wide
     (λ c κs. search needs)
     add-value
     (λ c. search needs)
