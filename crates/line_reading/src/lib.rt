@@ -1,5 +1,6 @@
 // From what a line holds to the line that was read, or to the refusals that need only the line (01, "A book, line by line").
 ghost use mathlib.Core.Path.{_≡_};
+ghost use Rattle.line_forms.specs.Claims.{LineReading, HeaderReading};
 ghost use Rattle.line_forms.specs.Readings.{lineOf, lineFor, headerOf, headerFor};
 use line_forms::Content;
 use line_forms::HeaderLine;
@@ -55,7 +56,8 @@ fn line_for(c: Content) -> Line
 
 // A line after the header.
 pub fn read_line(line: &[u8]) -> Line
-    ensures { λ r. ⌜ r ≡ lineOf (now (line .entry)) ⌝ }
+    ensures equation { λ r. ⌜ r ≡ lineOf (now (line .entry)) ⌝ }
+    ensures reading { λ r. ⌜ LineReading (now (line .entry)) r ⌝ }
 {
     if LONGEST < line.len() {
         return Line::Refusal(1);
@@ -87,7 +89,8 @@ fn header_for(c: Content) -> HeaderLine
 
 // The line that opens a book.
 pub fn read_header(line: &[u8]) -> HeaderLine
-    ensures { λ r. ⌜ r ≡ headerOf (now (line .entry)) ⌝ }
+    ensures equation { λ r. ⌜ r ≡ headerOf (now (line .entry)) ⌝ }
+    ensures reading { λ r. ⌜ HeaderReading (now (line .entry)) r ⌝ }
 {
     if LONGEST < line.len() {
         return HeaderLine::Refusal(1);
