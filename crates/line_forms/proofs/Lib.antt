@@ -3,6 +3,7 @@ pub mod Bounds
 pub mod Bytes
 pub mod Choices
 pub mod ContentLaws
+pub mod Examples
 pub mod FieldLaws
 pub mod FormLaws
 pub mod HeaderLaws
