@@ -1,5 +1,6 @@
 pub mod Addition
 pub mod Bridge
+pub mod Decimal
 pub mod Enclosure
 pub mod Examples
 pub mod Fractions

@@ -5,10 +5,13 @@ ghost use mathlib.Core.Bool.{true};
 ghost use lib.ListN.{length, drop, getD};
 ghost use Rattle.line_forms.specs.Bytes.{same as sameBytes, standsAt, after, past, runOf, within, allWithin};
 ghost use Rattle.line_forms.specs.Forms.{choicesOf};
-ghost use Rattle.line_forms.specs.Numerals.{valueFrom};
+ghost use Rattle.line_forms.specs.Numerals.{mostDigits, valueFrom};
 ghost use Rattle.line_forms.specs.Parsing.{digitsAt, numberAt, afterNumber, minusAt, signedAt, afterSigned, negativeAt, afterNegative, placeOf, afterWord, lettersAt, scoreAt, afterScore};
 use fixed_point::Signed;
 use loan_charge::Score;
+
+// The most digits of a D.
+const MOST_DIGITS: usize = 14;
 
 // A field's value and the position after it; past the end of the line where the field does not stand there.
 pub struct Found {
@@ -178,7 +181,7 @@ fn digit_at(digits: &[u8], i: usize) -> u64
 }
 
 fn value_of(digits: &[u8]) -> u64
-    requires { ⌜ (allWithin 48 57 (now digits) ≡ true) × (length (now digits) ≤ 14) ⌝ }
+    requires { ⌜ (allWithin 48 57 (now digits) ≡ true) × (length (now digits) ≤ mostDigits) ⌝ }
     ensures { λ r. ⌜ r ≡ valueFrom 0 (now (digits .entry)) ⌝ }
 {
     let mut value: u64 = 0;
@@ -212,7 +215,7 @@ fn number(line: &[u8], at: usize, digits: &[u8]) -> Found
     ensures { λ r. ⌜ (r .value ≡ numberAt (now (line .entry)) at) × (r .next ≡ afterNumber (now (line .entry)) at) ⌝ }
 {
     let n = digits.len();
-    if (n == 0) | (14 < n) {
+    if (n == 0) | (MOST_DIGITS < n) {
         return missing(line);
     }
     if (digits[0] == b'0') & (1 < n) {

@@ -6,7 +6,7 @@ use native.Mathlib.Omega.{arith}
 use mathlib.Core.Path.{_≡_, refl, sym, _∙_, ap}
 use mathlib.Core.Bool.{Bool, true, false, _&&_, _||_}
 use mathlib.Core.List.{List, [], _∷_, _++_}
-use borrow.Author.Tests.{eq-eqb, ne-eqb, eqb-true, leb-true, leb-false, le-leb, lt-leb}
+use borrow.Author.Tests.{eq-eqb, eqb-true, leb-true, leb-false, le-leb, lt-leb}
 use lib.Dec.{eqb, leb}
 use lib.ListN.{length, take, drop, getD, drop-of-length-le, length-drop, length-append, take-append-drop}
 use lib.Seq.{drop-cons, take-suc, getD-drop, drop-drop, drop-append-seam, take-append-seam}
@@ -126,9 +126,6 @@ pub within-bounds : (low high n : ℕ) → within low high n ≡ true → (low �
 within-bounds low high n h =
     let k : (leb low n ≡ true) × (leb n high ≡ true) = and-both (leb low n) (leb n high) h in
     (leb-true low n (k .0), leb-true n high (k .1))
-
-pub bounds-within : (low high n : ℕ) → low ≤ n → n ≤ high → within low high n ≡ true
-bounds-within low high n a b = rw (le-leb low n a, le-leb n high b)
 
 pub run-length : (low high : ℕ) (s : List ℕ) → length (runOf low high s) ≤ length s
 unfolding runOf

@@ -1,22 +1,19 @@
 -- What a line holds and the line's bytes determine each other.
-use Prim.Native.Nat.{ℕ, zero, suc, _+_, _≤_, _<_}
+use Prim.Native.Nat.{ℕ, zero, suc, _+_, _<_}
 use native.Mathlib.Omega.{arith}
 use mathlib.Core.Path.{_≡_, refl, sym, _∙_, ap}
-use mathlib.Core.Bool.{Bool, true, false, not}
-use mathlib.Core.List.{List, [], _∷_, _++_}
+use mathlib.Core.Bool.{Bool, true, false}
+use mathlib.Core.List.{List, _∷_, _++_}
 use mathlib.Core.Logic.{_⊎_, inl, inr}
-use borrow.Author.Tests.{ne-eqb}
 use lib.Dec.{eqb}
 use lib.ListN.{length, drop}
-use Rattle.loan_charge.specs.declared.Score.{Score}
-use Rattle.loan_charge.specs.declared.Score.the-variants.{Scored, Unscored}
 use Rattle.exact.specs.Text.{text}
 use Rattle.exact.specs.Choice.{pick}
 use Rattle.line_forms.specs.Bytes.{past, standsAt, after, runOf, same, allWithin}
-use Rattle.line_forms.specs.Numerals.{isNumeral, limit}
-use Rattle.line_forms.specs.Forms.{number, Form, field, end, Values, AllWritable, formText}
+use Rattle.line_forms.specs.Numerals.{limit}
+use Rattle.line_forms.specs.Forms.{Form, Values, AllWritable, formText}
 use Rattle.line_forms.specs.Parsing.{valuesAt, afterForm, hasForm, lettersAt, placeOf}
-use Rattle.line_forms.specs.Contents.{headerForm, headerValues, loanForm, loanValues, policyForm, policyValues, classPlace, derivativeForm, derivativeValues, kindPlace, assetForm, assetValues, plainForm, signedForm, amountForm, amountValues, bytesOf, SignFits, Written}
+use Rattle.line_forms.specs.Contents.{headerForm, headerValues, loanForm, loanValues, policyForm, policyValues, classPlace, derivativeForm, derivativeValues, kindPlace, assetForm, assetValues, plainForm, signedForm, amountForm, amountValues, bytesOf, SignFits, Writable}
 use Rattle.line_forms.specs.Readings.{headerWith, loanWith, policyWith, classAt, derivativeWith, kindAt, assetWith, unsigned, headerHeld, loanHeld, policyHeld, derivativeHeld, assetHeld, plainHeld, signedHeld, names, amountHeld, heldAs, contentOf}
 use Rattle.fixed_point.specs.declared.Signed.{Signed}
 use Rattle.line_forms.specs.declared.Header.{Header}
@@ -39,7 +36,7 @@ use Rattle.line_forms.proofs.FormLaws.{stops, proper, form-of, form-has
 -- From a line to what it holds: the line is the bytes of that.
 
 abbrev pub Right : List ℕ → Content → Type 0
-Right s c = (c ≡ NoForm) ⊎ (Written c × (s ≡ bytesOf c))
+Right s c = (c ≡ NoForm) ⊎ (Writable c × (s ≡ bytesOf c))
 
 pick-right : (s : List ℕ) (b : Bool) (x y : Content) → (b ≡ true → Right s x) → Right s y → Right s (pick b x y)
 pick-right s true x y f r = f refl
@@ -213,13 +210,13 @@ aged-back : (h : Header) (b : Bool) → b ≡ h .aged → header (record { loans
 aged-back h true e = ap (λ (b : Bool). header (record { loans = h .loans; unscored = h .unscored; aged = b; held = h .held })) e
 aged-back h false e = ap (λ (b : Bool). header (record { loans = h .loans; unscored = h .unscored; aged = b; held = h .held })) e
 
-header-written : (s : List ℕ) (h : Header) → Written (header h) → s ≡ bytesOf (header h) → contentOf s ≡ header h
+header-written : (s : List ℕ) (h : Header) → Writable (header h) → s ≡ bytesOf (header h) → contentOf s ≡ header h
 unfolding bytesOf headerHeld placeOf same allWithin
 header-written s h w e =
     named s (text "book") _ 4 (header h) refl refl e
     (held headerForm s (λ v. header (headerWith v)) NoForm (headerValues h) proper-header e w ∙ aged-back h (h .aged) refl)
 
-loan-written : (s : List ℕ) (l : Loan) → Written (loan l) → s ≡ bytesOf (loan l) → contentOf s ≡ loan l
+loan-written : (s : List ℕ) (l : Loan) → Writable (loan l) → s ≡ bytesOf (loan l) → contentOf s ≡ loan l
 unfolding bytesOf loanHeld placeOf same allWithin
 loan-written s l w e =
     named s (text "loan") _ 0 (loan l) refl refl e
@@ -229,7 +226,7 @@ class-back : (p : Policy) (q : Class) → q ≡ p .class → policy (record { cl
 class-back p Home e = ap (λ (q : Class). policy (record { class = q; premium = p .premium; term = p .term; completed = p .completed })) e
 class-back p Multi e = ap (λ (q : Class). policy (record { class = q; premium = p .premium; term = p .term; completed = p .completed })) e
 
-policy-written : (s : List ℕ) (p : Policy) → Written (policy p) → s ≡ bytesOf (policy p) → contentOf s ≡ policy p
+policy-written : (s : List ℕ) (p : Policy) → Writable (policy p) → s ≡ bytesOf (policy p) → contentOf s ≡ policy p
 unfolding bytesOf policyHeld placeOf same allWithin
 policy-written s p w e =
     named s (text "policy") _ 1 (policy p) refl refl e
@@ -243,14 +240,14 @@ kind-back Equity = refl
 kind-back Metal = refl
 kind-back Other = refl
 
-derivative-written : (s : List ℕ) (d : Derivative) → Written (derivative d) → s ≡ bytesOf (derivative d) → contentOf s ≡ derivative d
+derivative-written : (s : List ℕ) (d : Derivative) → Writable (derivative d) → s ≡ bytesOf (derivative d) → contentOf s ≡ derivative d
 unfolding bytesOf derivativeHeld placeOf same allWithin
 derivative-written s d w e =
     named s (text "deriv") _ 2 (derivative d) refl refl e
     (held derivativeForm s (λ v. derivative (derivativeWith v)) NoForm (derivativeValues d) proper-derivative e w ∙
     rw (kind-back (d .kind)))
 
-asset-written : (s : List ℕ) (a : Asset) → Written (asset a) → s ≡ bytesOf (asset a) → contentOf s ≡ asset a
+asset-written : (s : List ℕ) (a : Asset) → Writable (asset a) → s ≡ bytesOf (asset a) → contentOf s ≡ asset a
 unfolding bytesOf assetHeld placeOf same allWithin
 asset-written s a w e =
     named s (text "asset") _ 3 (asset a) refl refl e
@@ -288,7 +285,7 @@ amount-written s C n w z e =
     named s (text "c") _ 11 _ refl refl e (plain-written C (text "(c ") s (n .plus) (w .0) e ∙ unsigned-back C n z)
 
 -- The bytes of what a line can hold are read as that.
-pub content-written : (s : List ℕ) (c : Content) → Written c → s ≡ bytesOf c → contentOf s ≡ c
+pub content-written : (s : List ℕ) (c : Content) → Writable c → s ≡ bytesOf c → contentOf s ≡ c
 unfolding bytesOf
 content-written s (header h) w e = header-written s h w e
 content-written s (loan l) w e = loan-written s l w e

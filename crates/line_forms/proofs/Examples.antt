@@ -1,11 +1,12 @@
 -- The lines of every form are the texts shown.
 use mathlib.Core.Path.{refl}
-use Rattle.line_forms.specs.Numerals.{digitsOf, signedText}
+use Rattle.exact.specs.Decimal.{leading, digits}
+use Rattle.line_forms.specs.Numerals.{signedText}
 use Rattle.line_forms.specs.Contents.{bytesOf}
 use Rattle.line_forms.specs.Examples.{LineTexts}
 
 pub line-texts : LineTexts
-unfolding bytesOf digitsOf signedText
+unfolding bytesOf leading digits signedText
 line-texts = record {
   fresh = refl;
   aged = refl;

@@ -1,7 +1,7 @@
 -- Laws of a field: what is written as the field's value is read as it, and only that.
 use Prim.Native.Nat.{ℕ, zero, suc, _+_, _≤_, _<_}
 use native.Mathlib.Omega.{arith}
-use mathlib.Core.Path.{_≡_, refl, sym, _∙_, ap}
+use mathlib.Core.Path.{_≡_, refl, sym, ap}
 use mathlib.Core.Bool.{Bool, true, false, _&&_, _||_, not}
 use mathlib.Core.List.{List, [], _∷_, _++_}
 use mathlib.Core.Logic.{_⊎_, inl, inr, ⊎-elim}
@@ -11,7 +11,7 @@ use lib.ListN.{length, drop, getD}
 use lib.Seq.{drop-drop}
 use Rattle.exact.specs.Choice.{pick}
 use Rattle.line_forms.specs.Bytes.{past, allWithin, same}
-use Rattle.line_forms.specs.Forms.{Field, number, signed, word, score, Value, Writable, fieldText}
+use Rattle.line_forms.specs.Forms.{Field, number, signed, word, score, Value, FieldWritable, fieldText}
 use Rattle.line_forms.specs.Parsing.{lettersAt, placeOf, afterWord, fieldAt, afterField}
 use Rattle.line_forms.proofs.Bytes.{and-both, or-false, same-eq, same-refl, run-split, run-exact, run-end, rest-after}
 use Rattle.line_forms.proofs.NumberLaws.{Ends, number-written, number-read, number-past, signed-written, signed-read, signed-past}
@@ -129,7 +129,7 @@ properField signed = true
 properField (word choices) = spelled choices
 properField score = true
 
-pub field-written : (k : Field) (s : List ℕ) (at : ℕ) (v : Value k) (r : List ℕ) → at ≤ length s → drop at s ≡ fieldText k v ++ r → Writable k v → properField k ≡ true → Ends r → (fieldAt k s at ≡ v) × (afterField k s at ≡ at + length (fieldText k v))
+pub field-written : (k : Field) (s : List ℕ) (at : ℕ) (v : Value k) (r : List ℕ) → at ≤ length s → drop at s ≡ fieldText k v ++ r → FieldWritable k v → properField k ≡ true → Ends r → (fieldAt k s at ≡ v) × (afterField k s at ≡ at + length (fieldText k v))
 field-written number s at v r l e w p q = number-written s at v r e w q
 field-written signed s at v r l e w p q = signed-written s at v r l e w q
 field-written (word choices) s at v r l e w p q = word-written choices s at v r e p w q
@@ -138,7 +138,7 @@ field-written score s at v r l e w p q = score-written s at v r l e w q
 pub record FieldRead (k : Field) (s : List ℕ) (at : ℕ) : Type 0 where
   pub fits : afterField k s at ≤ length s
   pub text : drop at s ≡ fieldText k (fieldAt k s at) ++ drop (afterField k s at) s
-  pub small : Writable k (fieldAt k s at)
+  pub small : FieldWritable k (fieldAt k s at)
 
 pub field-read : (k : Field) (s : List ℕ) (at : ℕ) → at ≤ length s → FieldRead k s at ⊎ (afterField k s at ≡ past s)
 field-read number s at h = ⊎-elim (λ k. inl (record { fits = k .fits; text = k .text; small = k .small })) (λ k. inr (k .0)) (number-read s at h)

@@ -10,7 +10,7 @@ use lib.Dec.{eqb}
 use lib.ListN.{length, drop, length-drop}
 use lib.Seq.{drop-length}
 use Rattle.line_forms.specs.Bytes.{past, standsAt, after, runOf, within}
-use Rattle.line_forms.specs.Forms.{Field, Form, field, end, Values, Writable, AllWritable, fieldText, formText}
+use Rattle.line_forms.specs.Forms.{Field, Form, field, end, Values, FieldWritable, AllWritable, fieldText, formText}
 use Rattle.line_forms.specs.Parsing.{fieldAt, afterField, valuesAt, afterForm, hasForm}
 use Rattle.line_forms.proofs.Bytes.{and-both, rest-after, text-stands, Stands, text-cases, after-past, after-false}
 use Rattle.line_forms.proofs.NumberLaws.{Ends}
@@ -91,7 +91,7 @@ form-read (field t k f) s at p l e =
     Goal : ℕ → Type 0
     Goal from =
         (drop at s ≡ t ++ (fieldText k (fieldAt k s from) ++ formText f (valuesAt f s (afterField k s from)))) ×
-        (Writable k (fieldAt k s from) × AllWritable f (valuesAt f s (afterField k s from)))
+        (FieldWritable k (fieldAt k s from) × AllWritable f (valuesAt f s (afterField k s from)))
 
     next : Proper k f → ((at : ℕ) → at ≤ length s → afterForm f s at ≡ length s → Read at) → Stands s at t → afterForm f s (afterField k s (at + length t)) ≡ length s → FieldRead k s (at + length t) ⊎ (afterField k s (at + length t) ≡ past s) → Goal (at + length t)
     next q ih a x (inl b) =

@@ -1,7 +1,7 @@
 -- Header reading answers by the rules of 01, when and only when each holds; and a header in range is read from its bytes.
 use Prim.Native.Nat.{ℕ, _≤_, _<_}
 use native.Mathlib.Omega.{arith}
-use mathlib.Core.Path.{sym, _≡_, refl, _∙_, ap, subst}
+use mathlib.Core.Path.{_≡_, refl, _∙_, ap, subst}
 use mathlib.Core.Bool.{Bool, true, false}
 use mathlib.Core.List.{List}
 use borrow.Author.Tests.{lt-ltb, le-ltb, ltb-true, ltb-false}
@@ -10,7 +10,7 @@ use mathlib.Core.Logic.{_↔_, _⊎_, inl, inr}
 use lib.ListN.{length}
 use Rattle.exact.specs.Choice.{pick}
 use Rattle.line_forms.specs.Bytes.{within}
-use Rattle.line_forms.specs.Contents.{bytesOf, Written, inRange, headerInRange}
+use Rattle.line_forms.specs.Contents.{bytesOf, Writable, inRange, headerInRange}
 use Rattle.line_forms.specs.Readings.{headerOf, headerFor}
 use Rattle.line_forms.specs.Claims.{AfterHeader, headerRefusal, headerContent, NoBytes, HeaderReading, BytesRead}
 use Rattle.line_forms.specs.declared.Header.{Header}
@@ -27,18 +27,18 @@ use Rattle.line_forms.proofs.Sizes.{content-size}
 data Answer (s : List ℕ) : HeaderLine → Type 0 where
   long : 240 < length s → Answer s (HeaderRefusal 1)
   none : length s ≤ 240 → NoBytes s → Answer s (HeaderRefusal 2)
-  other : (c : Content) → AfterHeader c → Written c → s ≡ bytesOf c → Answer s (HeaderRefusal 7)
-  out : (h : Header) → Written (header h) → inRange (header h) ≡ false → s ≡ bytesOf (header h) → Answer s (HeaderRefusal 3)
-  over : (h : Header) → Written (header h) → inRange (header h) ≡ true → h .loans < h .unscored → s ≡ bytesOf (header h) → Answer s (HeaderRefusal 4)
-  held : (h : Header) → Written (header h) → inRange (header h) ≡ true → h .unscored ≤ h .loans → s ≡ bytesOf (header h) → Answer s (HeaderRead h)
+  other : (c : Content) → AfterHeader c → Writable c → s ≡ bytesOf c → Answer s (HeaderRefusal 7)
+  out : (h : Header) → Writable (header h) → inRange (header h) ≡ false → s ≡ bytesOf (header h) → Answer s (HeaderRefusal 3)
+  over : (h : Header) → Writable (header h) → inRange (header h) ≡ true → h .loans < h .unscored → s ≡ bytesOf (header h) → Answer s (HeaderRefusal 4)
+  held : (h : Header) → Writable (header h) → inRange (header h) ≡ true → h .unscored ≤ h .loans → s ≡ bytesOf (header h) → Answer s (HeaderRead h)
 
-judged : (s : List ℕ) (h : Header) → Written (header h) → s ≡ bytesOf (header h) → (b : Bool) → inRange (header h) ≡ b → (d : Bool) → ltb (h .loans) (h .unscored) ≡ d → Answer s (pick b (pick d (HeaderRefusal 4) (HeaderRead h)) (HeaderRefusal 3))
+judged : (s : List ℕ) (h : Header) → Writable (header h) → s ≡ bytesOf (header h) → (b : Bool) → inRange (header h) ≡ b → (d : Bool) → ltb (h .loans) (h .unscored) ≡ d → Answer s (pick b (pick d (HeaderRefusal 4) (HeaderRead h)) (HeaderRefusal 3))
 judged s h w e true r true x = over h w r (ltb-true (h .loans) (h .unscored) x) e
 judged s h w e true r false x = held h w r (ltb-false (h .loans) (h .unscored) x) e
 judged s h w e false r true x = out h w r e
 judged s h w e false r false x = out h w r e
 
-answer-for : (s : List ℕ) (c : Content) → Written c → s ≡ bytesOf c → Answer s (headerFor c)
+answer-for : (s : List ℕ) (c : Content) → Writable c → s ≡ bytesOf c → Answer s (headerFor c)
 unfolding headerFor inRange
 answer-for s (header h) w e = judged s h w e (inRange (header h)) refl (ltb (h .loans) (h .unscored)) refl
 answer-for s (loan x) w e = other (loan x) tt w e
@@ -68,7 +68,7 @@ header-range : (h : Header) → headerFor (header h) ≡ pick (inRange (header h
 unfolding headerFor inRange
 header-range h = refl
 
-read-as : (s : List ℕ) (c : Content) → Written c → s ≡ bytesOf c → headerOf s ≡ headerFor c
+read-as : (s : List ℕ) (c : Content) → Writable c → s ≡ bytesOf c → headerOf s ≡ headerFor c
 unfolding headerOf
 read-as s c w e = answer-held (HeaderRefusal 1) headerFor s c w e
 
@@ -98,7 +98,7 @@ rule2 s r (out h w o e) q = absurd (omega arith)
 rule2 s r (over h w o l e) q = absurd (omega arith)
 rule2 s r (held h w o l e) q = absurd (omega arith)
 
-rule7 : (s : List ℕ) (r : HeaderLine) → Answer s r → headerRefusal r ≡ 7 → (c : Content) × AfterHeader c × Written c × (s ≡ bytesOf c)
+rule7 : (s : List ℕ) (r : HeaderLine) → Answer s r → headerRefusal r ≡ 7 → (c : Content) × AfterHeader c × Writable c × (s ≡ bytesOf c)
 rule7 s r (long l) q = absurd (omega arith)
 rule7 s r (none l n) q = absurd (omega arith)
 rule7 s r (other c a w e) q = (c, a, w, e)
@@ -106,7 +106,7 @@ rule7 s r (out h w o e) q = absurd (omega arith)
 rule7 s r (over h w o l e) q = absurd (omega arith)
 rule7 s r (held h w o l e) q = absurd (omega arith)
 
-rule3 : (s : List ℕ) (r : HeaderLine) → Answer s r → headerRefusal r ≡ 3 → (h : Header) × Written (header h) × (inRange (header h) ≡ false) × (s ≡ bytesOf (header h))
+rule3 : (s : List ℕ) (r : HeaderLine) → Answer s r → headerRefusal r ≡ 3 → (h : Header) × Writable (header h) × (inRange (header h) ≡ false) × (s ≡ bytesOf (header h))
 rule3 s r (long l) q = absurd (omega arith)
 rule3 s r (none l n) q = absurd (omega arith)
 rule3 s r (other c a w e) q = absurd (omega arith)
@@ -114,7 +114,7 @@ rule3 s r (out h w o e) q = (h, w, o, e)
 rule3 s r (over h w o l e) q = absurd (omega arith)
 rule3 s r (held h w o l e) q = absurd (omega arith)
 
-rule4 : (s : List ℕ) (r : HeaderLine) → Answer s r → headerRefusal r ≡ 4 → (h : Header) × Written (header h) × (inRange (header h) ≡ true) × (h .loans < h .unscored) × (s ≡ bytesOf (header h))
+rule4 : (s : List ℕ) (r : HeaderLine) → Answer s r → headerRefusal r ≡ 4 → (h : Header) × Writable (header h) × (inRange (header h) ≡ true) × (h .loans < h .unscored) × (s ≡ bytesOf (header h))
 rule4 s r (long l) q = absurd (omega arith)
 rule4 s r (none l n) q = absurd (omega arith)
 rule4 s r (other c a w e) q = absurd (omega arith)
@@ -140,7 +140,7 @@ headerIn g (asset x) = g
 headerIn g (amount x) = g
 headerIn g NoForm = g
 
-rule0 : (s : List ℕ) (r : HeaderLine) → Answer s r → headerRefusal r ≡ 0 → (g : Header) → headerContent r ≡ header g → Written (header g) × (inRange (header g) ≡ true) × (g .unscored ≤ g .loans) × (s ≡ bytesOf (header g))
+rule0 : (s : List ℕ) (r : HeaderLine) → Answer s r → headerRefusal r ≡ 0 → (g : Header) → headerContent r ≡ header g → Writable (header g) × (inRange (header g) ≡ true) × (g .unscored ≤ g .loans) × (s ≡ bytesOf (header g))
 unfolding headerIn
 rule0 s r (long l) q g z = absurd (omega arith)
 rule0 s r (none l n) q g z = absurd (omega arith)
@@ -148,7 +148,7 @@ rule0 s r (other c a w e) q g z = absurd (omega arith)
 rule0 s r (out h w o e) q g z = absurd (omega arith)
 rule0 s r (over h w o l e) q g z = absurd (omega arith)
 rule0 s r (held h w o l e) q g z =
-    subst (λ (x : Header). Written (header x) × (inRange (header x) ≡ true) × (x .unscored ≤ x .loans) × (s ≡ bytesOf (header x)))
+    subst (λ (x : Header). Writable (header x) × (inRange (header x) ≡ true) × (x .unscored ≤ x .loans) × (s ≡ bytesOf (header x)))
     (ap (headerIn g) z)
     (w, o, l, e)
 
@@ -179,14 +179,14 @@ header-reading s = record {
 }
 
 -- The same by the answer's case, for one that is known.
-pub header-accepted : (s : List ℕ) (h : Header) → (headerOf s ≡ HeaderRead h) ↔ (Written (header h) × (inRange (header h) ≡ true) × (h .unscored ≤ h .loans) × (s ≡ bytesOf (header h)))
+pub header-accepted : (s : List ℕ) (h : Header) → (headerOf s ≡ HeaderRead h) ↔ (Writable (header h) × (inRange (header h) ≡ true) × (h .unscored ≤ h .loans) × (s ≡ bytesOf (header h)))
 header-accepted s h = (
   λ e. header-reading s .accepted h .0 (ap headerRefusal e, ap headerContent e),
   λ k. answers s (HeaderRead h) (held h (k .0) (k .1) (k .2) (k .3)),
 )
 
 -- a header in its ranges has numbers that a D can write
-header-written : (h : Header) → inRange (header h) ≡ true → h .unscored ≤ h .loans → Written (header h)
+header-written : (h : Header) → inRange (header h) ≡ true → h .unscored ≤ h .loans → Writable (header h)
 unfolding inRange headerInRange
 header-written h r u =
     let a = and-both (within 0 1000000 (h .loans)) (within 0 10000000000000 (h .held)) r in

@@ -7,7 +7,7 @@ use mathlib.Core.List.{List}
 use mathlib.Core.Logic.{_↔_, _⊎_, inl, inr}
 use lib.ListN.{length}
 use Rattle.exact.specs.Choice.{pick}
-use Rattle.line_forms.specs.Contents.{bytesOf, Written, inRange}
+use Rattle.line_forms.specs.Contents.{bytesOf, Writable, inRange}
 use Rattle.line_forms.specs.Readings.{lineOf, lineFor}
 use Rattle.line_forms.specs.Claims.{AfterHeader, lineWith, lineRefusal, lineContent, NoBytes, LineReading}
 use Rattle.line_forms.specs.declared.Header.{Header}
@@ -21,16 +21,16 @@ use Rattle.line_forms.proofs.AnswerLaws.{answer-long, answer-none, answ
 data Answer (s : List ℕ) : Line → Type 0 where
   long : 240 < length s → Answer s (Refusal 1)
   none : length s ≤ 240 → NoBytes s → Answer s (Refusal 2)
-  head : (h : Header) → Written (header h) → s ≡ bytesOf (header h) → Answer s (Refusal 7)
-  out : (c : Content) → AfterHeader c → Written c → inRange c ≡ false → s ≡ bytesOf c → Answer s (Refusal 3)
-  held : (c : Content) → AfterHeader c → Written c → inRange c ≡ true → s ≡ bytesOf c → Answer s (lineWith c)
+  head : (h : Header) → Writable (header h) → s ≡ bytesOf (header h) → Answer s (Refusal 7)
+  out : (c : Content) → AfterHeader c → Writable c → inRange c ≡ false → s ≡ bytesOf c → Answer s (Refusal 3)
+  held : (c : Content) → AfterHeader c → Writable c → inRange c ≡ true → s ≡ bytesOf c → Answer s (lineWith c)
 
 -- the answer for data after the header
-judged : (s : List ℕ) (c : Content) → AfterHeader c → Written c → s ≡ bytesOf c → (b : Bool) → inRange c ≡ b → Answer s (pick b (lineWith c) (Refusal 3))
+judged : (s : List ℕ) (c : Content) → AfterHeader c → Writable c → s ≡ bytesOf c → (b : Bool) → inRange c ≡ b → Answer s (pick b (lineWith c) (Refusal 3))
 judged s c a w e true r = held c a w r e
 judged s c a w e false r = out c a w r e
 
-answer-for : (s : List ℕ) (c : Content) → Written c → s ≡ bytesOf c → Answer s (lineFor c)
+answer-for : (s : List ℕ) (c : Content) → Writable c → s ≡ bytesOf c → Answer s (lineFor c)
 unfolding lineFor inRange
 answer-for s (header h) w e = head h w e
 answer-for s (loan x) w e = judged s (loan x) tt w e (inRange (loan x)) refl
@@ -56,7 +56,7 @@ line-range (asset x) a = refl
 line-range (amount x) a = refl
 line-range NoForm a = absurd a
 
-read-as : (s : List ℕ) (c : Content) → Written c → s ≡ bytesOf c → lineOf s ≡ lineFor c
+read-as : (s : List ℕ) (c : Content) → Writable c → s ≡ bytesOf c → lineOf s ≡ lineFor c
 unfolding lineOf
 read-as s c w e = answer-held (Refusal 1) lineFor s c w e
 
@@ -101,14 +101,14 @@ rule2 s r (head h w e) q = absurd (omega arith)
 rule2 s r (out c a w o e) q = absurd (omega arith)
 rule2 s r (held c a w o e) q = absurd (omega (arith, accepted-number c a))
 
-rule7 : (s : List ℕ) (r : Line) → Answer s r → lineRefusal r ≡ 7 → (h : Header) × Written (header h) × (s ≡ bytesOf (header h))
+rule7 : (s : List ℕ) (r : Line) → Answer s r → lineRefusal r ≡ 7 → (h : Header) × Writable (header h) × (s ≡ bytesOf (header h))
 rule7 s r (long l) q = absurd (omega arith)
 rule7 s r (none l n) q = absurd (omega arith)
 rule7 s r (head h w e) q = (h, w, e)
 rule7 s r (out c a w o e) q = absurd (omega arith)
 rule7 s r (held c a w o e) q = absurd (omega (arith, accepted-number c a))
 
-rule3 : (s : List ℕ) (r : Line) → Answer s r → lineRefusal r ≡ 3 → (c : Content) × AfterHeader c × Written c × (inRange c ≡ false) × (s ≡ bytesOf c)
+rule3 : (s : List ℕ) (r : Line) → Answer s r → lineRefusal r ≡ 3 → (c : Content) × AfterHeader c × Writable c × (inRange c ≡ false) × (s ≡ bytesOf c)
 rule3 s r (long l) q = absurd (omega arith)
 rule3 s r (none l n) q = absurd (omega arith)
 rule3 s r (head h w e) q = absurd (omega arith)
@@ -122,13 +122,13 @@ numbers s r (none l k) = inr (inr (inl refl))
 numbers s r (head h w e) = inr (inr (inr (inl refl)))
 numbers s r (out c a w o e) = inr (inr (inr (inr refl)))
 
-rule0 : (s : List ℕ) (r : Line) → Answer s r → lineRefusal r ≡ 0 → (c : Content) → lineContent r ≡ c → Written c × (inRange c ≡ true) × (s ≡ bytesOf c)
+rule0 : (s : List ℕ) (r : Line) → Answer s r → lineRefusal r ≡ 0 → (c : Content) → lineContent r ≡ c → Writable c × (inRange c ≡ true) × (s ≡ bytesOf c)
 rule0 s r (long l) q c z = absurd (omega arith)
 rule0 s r (none l n) q c z = absurd (omega arith)
 rule0 s r (head h w e) q c z = absurd (omega arith)
 rule0 s r (out d b w o e) q c z = absurd (omega arith)
 rule0 s r (held d b w o e) q c z =
-    subst (λ (x : Content). Written x × (inRange x ≡ true) × (s ≡ bytesOf x)) (sym (accepted-data d b) ∙ z) (w, o, e)
+    subst (λ (x : Content). Writable x × (inRange x ≡ true) × (s ≡ bytesOf x)) (sym (accepted-data d b) ∙ z) (w, o, e)
 
 pub line-reading : (s : List ℕ) → LineReading s (lineOf s)
 line-reading s = record {
@@ -151,7 +151,7 @@ line-reading s = record {
 }
 
 -- The same by the answer's case, for one that is known.
-pub line-accepted : (s : List ℕ) (c : Content) → AfterHeader c → (lineOf s ≡ lineWith c) ↔ (Written c × (inRange c ≡ true) × (s ≡ bytesOf c))
+pub line-accepted : (s : List ℕ) (c : Content) → AfterHeader c → (lineOf s ≡ lineWith c) ↔ (Writable c × (inRange c ≡ true) × (s ≡ bytesOf c))
 line-accepted s c a = (
   λ e. line-reading s .accepted c a .0 (ap lineRefusal e ∙ accepted-number c a, ap lineContent e ∙ accepted-data c a),
   λ k. answers s (lineWith c) (held c a (k .0) (k .1) (k .2)),

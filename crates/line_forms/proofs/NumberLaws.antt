@@ -1,5 +1,5 @@
 -- Laws of numbers in a line: a D or S that is written is read as it, and only that.
-use Prim.Native.Nat.{ℕ, zero, suc, _+_, _≤_, _<_}
+use Prim.Native.Nat.{ℕ, zero, _+_, _≤_, _<_}
 use native.Mathlib.Nat.{add-zero}
 use native.Mathlib.Numerals.{add-one}
 use native.Mathlib.Omega.{arith}
@@ -13,12 +13,13 @@ use lib.ListN.{length, drop, getD, List·getD-eq-default}
 use lib.Seq.{getD-drop, drop-drop, drop-cons}
 use Rattle.line_forms.specs.Bytes.{past, runOf, allWithin}
 use Rattle.line_forms.specs.Numerals.{isNumeral, decimal, limit, signedText}
-use Rattle.line_forms.specs.Forms.{signed, Writable}
+use Rattle.line_forms.specs.Forms.{signed, FieldWritable}
 use Rattle.line_forms.specs.Parsing.{digitsAt, numberAt, afterNumber, minusAt, afterNegative, signedAt, afterSigned}
 use Rattle.fixed_point.specs.declared.Signed.{Signed}
 use Rattle.line_forms.proofs.Bytes.{run-split, run-exact, run-end, rest-after}
 use Rattle.line_forms.proofs.Positions.{minus-inside}
-use Rattle.line_forms.proofs.Numerals.{decimal-numeral, decimal-value, decimal-digits, decimal-first, numeral-decimal}
+use Rattle.line_forms.proofs.Numerals.{decimal-numeral, decimal-digits, decimal-first, numeral-decimal}
+use Rattle.exact.proofs.Decimal.{digits-value}
 
 -- neither a digit nor a letter comes first
 pub record Ends (r : List ℕ) : Type 0 where
@@ -30,8 +31,8 @@ pub record Ends (r : List ℕ) : Type 0 where
 pub number-written : (s : List ℕ) (at n : ℕ) (r : List ℕ) → drop at s ≡ decimal n ++ r → n < limit → Ends r → (numberAt s at ≡ n) × (afterNumber s at ≡ at + length (decimal n))
 unfolding numberAt afterNumber
 number-written s at n r e h q =
-    let d : digitsAt s at ≡ decimal n = rw e (run-exact 48 57 (decimal n) r (decimal-digits n h) (q .digits)) in
-    (rw (d, decimal-numeral n h, decimal-value n h), rw (d, decimal-numeral n h))
+    let d : digitsAt s at ≡ decimal n = rw e (run-exact 48 57 (decimal n) r (decimal-digits n) (q .digits)) in
+    (rw (d, decimal-numeral n h, digits-value n), rw (d, decimal-numeral n h))
 
 -- what reading a D shows of the line
 pub record NumberRead (s : List ℕ) (at : ℕ) : Type 0 where
@@ -67,7 +68,7 @@ at-first s at t e = rw (getD-drop at s 0 0, add-zero at) at (ap (λ (l : List �
 
 no-minus : (s : List ℕ) (at n : ℕ) (r : List ℕ) → drop at s ≡ decimal n ++ r → n < limit → minusAt s at ≡ false
 no-minus s at n r e h =
-    ne-eqb (getD s at 0) 45 (λ q. omega (arith, decimal-first n r h, at-first s at (decimal n ++ r) e))
+    ne-eqb (getD s at 0) 45 (λ q. omega (arith, decimal-first n r, at-first s at (decimal n ++ r) e))
 
 next-rest : (s : List ℕ) (at b : ℕ) (r : List ℕ) → at ≤ length s → drop at s ≡ b ∷ r → drop (at + 1) s ≡ r
 next-rest s at b r h e = rest-after s at (b ∷ []) r h e .1
@@ -75,7 +76,7 @@ next-rest s at b r h e = rest-after s at (b ∷ []) r h e .1
 of : ℕ → ℕ → Signed
 of p m = record { plus = p; minus = m }
 
-pub signed-written : (s : List ℕ) (at : ℕ) (n : Signed) (r : List ℕ) → at ≤ length s → drop at s ≡ signedText n ++ r → Writable signed n → Ends r → (signedAt s at ≡ n) × (afterSigned s at ≡ at + length (signedText n))
+pub signed-written : (s : List ℕ) (at : ℕ) (n : Signed) (r : List ℕ) → at ≤ length s → drop at s ≡ signedText n ++ r → FieldWritable signed n → Ends r → (signedAt s at ≡ n) × (afterSigned s at ≡ at + length (signedText n))
 unfolding signedAt afterSigned afterNegative signedText of
 signed-written s at n r l e w q = go (eqb (n .minus) 0) refl
   where
@@ -98,7 +99,7 @@ signed-written s at n r l e w q = go (eqb (n .minus) 0) refl
 pub record SignedRead (s : List ℕ) (at : ℕ) : Type 0 where
   pub fits : afterSigned s at ≤ length s
   pub text : drop at s ≡ signedText (signedAt s at) ++ drop (afterSigned s at) s
-  pub small : Writable signed (signedAt s at)
+  pub small : FieldWritable signed (signedAt s at)
 
 -- the rest begins with the byte at the position
 first-rest : (s : List ℕ) (at : ℕ) → at < length s → drop at s ≡ getD s at 0 ∷ drop (at + 1) s

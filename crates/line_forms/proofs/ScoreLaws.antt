@@ -12,11 +12,12 @@ use Rattle.loan_charge.specs.declared.Score.{Score}
 use Rattle.loan_charge.specs.declared.Score.the-variants.{Scored, Unscored}
 use Rattle.exact.specs.Text.{text}
 use Rattle.line_forms.specs.Bytes.{past, standsAt, after, runOf, allWithin, same, within}
-use Rattle.line_forms.specs.Numerals.{decimal, limit, isNumeral}
+use Rattle.line_forms.specs.Numerals.{decimal, isNumeral}
 use Rattle.line_forms.specs.Forms.{scoreText, ScoreWritable}
 use Rattle.line_forms.specs.Parsing.{digitsAt, lettersAt, numberAt, afterNumber, noneAt, ageAfter, scoreAt, afterScore}
 use Rattle.line_forms.proofs.Bytes.{and-both, within-bounds, same-eq, run-split, run-exact, run-end, rest-after, run-within, text-stands, Stands, stands-fits, after-true, after-false, text-cases, after-past}
-use Rattle.line_forms.proofs.Numerals.{decimal-digits, decimal-some, is-numeral}
+use Rattle.line_forms.proofs.Numerals.{decimal-digits, is-numeral}
+use Rattle.exact.proofs.Decimal.{digits-some}
 use Rattle.line_forms.proofs.Positions.{number-missing}
 use Rattle.line_forms.proofs.NumberLaws.{Ends, number-written, NumberRead, number-read, number-past}
 
@@ -39,7 +40,7 @@ unfolding scoreAt afterScore same allWithin
 score-written s at (Scored n age) r l e w q =
     let m = length (decimal n) in
     let e1 : drop at s ≡ decimal n ++ (32 ∷ (decimal age ++ r)) = e ∙ append-assoc (decimal n) (32 ∷ decimal age) r in
-    let d : lettersAt s at ≡ [] = rw e1 (digits-first (decimal n) (32 ∷ (decimal age ++ r)) (decimal-some n (w .0)) (decimal-digits n (w .0))) in
+    let d : lettersAt s at ≡ [] = rw e1 (digits-first (decimal n) (32 ∷ (decimal age ++ r)) (digits-some n) (decimal-digits n)) in
     let a = number-written s at n (32 ∷ (decimal age ++ r)) e1 (w .0) (space-ends (decimal age ++ r)) in
     let x = rest-after s at (decimal n) (32 ∷ (decimal age ++ r)) l e1 in
     let b : after s (at + m) (text " ") ≡ at + m + 1 = text-stands s (at + m) (text " ") (decimal age ++ r) (x .0) (x .1) in

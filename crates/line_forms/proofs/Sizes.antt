@@ -10,8 +10,8 @@ use Rattle.loan_charge.specs.declared.Score.{Score}
 use Rattle.loan_charge.specs.declared.Score.the-variants.{Scored, Unscored}
 use Rattle.exact.specs.Choice.{pick}
 use Rattle.line_forms.specs.Numerals.{decimal, signedText}
-use Rattle.line_forms.specs.Forms.{Field, number, signed, word, score, Form, field, end, Value, Values, Writable, AllWritable, fieldText, formText, scoreText, ScoreWritable}
-use Rattle.line_forms.specs.Contents.{headerForm, headerValues, loanForm, loanValues, policyForm, policyValues, derivativeForm, derivativeValues, assetForm, assetValues, amountForm, amountValues, bytesOf, Written}
+use Rattle.line_forms.specs.Forms.{Field, number, signed, word, score, Form, field, end, Value, Values, FieldWritable, AllWritable, fieldText, formText, scoreText, ScoreWritable}
+use Rattle.line_forms.specs.Contents.{headerForm, headerValues, loanForm, loanValues, policyForm, policyValues, derivativeForm, derivativeValues, assetForm, assetValues, amountForm, amountValues, bytesOf, Writable}
 use Rattle.fixed_point.specs.declared.Signed.{Signed}
 use Rattle.line_forms.specs.declared.Item.{Item}
 use Rattle.line_forms.specs.declared.Item.the-variants.{Claims, Lossc, Stated, Equity, Aoci, B, C}
@@ -39,7 +39,7 @@ abbrev formSize : Form → ℕ
 formSize (field t k f) = length t + (fieldSize k + formSize f)
 formSize (end t) = length t
 
-signed-size : (n : Signed) → Writable signed n → length (signedText n) ≤ 15
+signed-size : (n : Signed) → FieldWritable signed n → length (signedText n) ≤ 15
 unfolding signedText
 signed-size n w = go (eqb (n .minus) 0)
   where
@@ -52,7 +52,7 @@ score-size (Scored n age) w =
     omega (arith, length-append (decimal n) (32 ∷ decimal age), decimal-short n (w .0), decimal-short age (w .1))
 score-size Unscored w = omega arith
 
-field-size : (k : Field) (v : Value k) → Writable k v → length (fieldText k v) ≤ fieldSize k
+field-size : (k : Field) (v : Value k) → FieldWritable k v → length (fieldText k v) ≤ fieldSize k
 field-size number v w = decimal-short v w
 field-size signed v w = signed-size v w
 field-size (word choices) v w = word-size choices v
@@ -78,7 +78,7 @@ amount-bound Aoci = lit≤ tt
 amount-bound B = lit≤ tt
 amount-bound C = lit≤ tt
 
-pub content-size : (c : Content) → Written c → length (bytesOf c) ≤ 152
+pub content-size : (c : Content) → Writable c → length (bytesOf c) ≤ 152
 unfolding bytesOf
 content-size (header h) w = le-trans (form-size headerForm (headerValues h) w) (lit≤ tt)
 content-size (loan l) w = le-trans (form-size loanForm (loanValues l) w) (lit≤ tt)

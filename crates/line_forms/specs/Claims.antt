@@ -5,8 +5,8 @@ use mathlib.Core.List.{List}
 use mathlib.Core.Logic.{_↔_, _⊎_}
 use mathlib.Core.Path.{_≡_}
 use lib.ListN.{length}
-use Rattle.line_forms.specs.Contents.{bytesOf, Written, inRange}
-use Rattle.line_forms.specs.Readings.{headerOf, contentOf}
+use Rattle.line_forms.specs.Contents.{bytesOf, Writable, inRange}
+use Rattle.line_forms.specs.Readings.{longestLine, headerOf, contentOf}
 use Rattle.line_forms.specs.declared.Header.{Header}
 use Rattle.line_forms.specs.declared.Content.{Content}
 use Rattle.line_forms.specs.declared.Content.the-variants.{Header as header, Loan as loan, Policy as policy, Derivative as derivative, Asset as asset, Amount as amount, NoForm}
@@ -64,29 +64,29 @@ headerContent (HeaderRefusal n) = NoForm
 
 -- a line that is no form's bytes
 abbrev pub NoBytes : List ℕ → Type 0
-NoBytes s = (c : Content) → Written c → s ≡ bytesOf c → ⊥
+NoBytes s = (c : Content) → Writable c → s ≡ bytesOf c → ⊥
 
 -- what the answer r for a line s after the header says of the line
 pub record LineReading (s : List ℕ) (r : Line) : Type 0 where
-  pub accepted : (c : Content) → AfterHeader c → ((lineRefusal r ≡ 0) × (lineContent r ≡ c)) ↔ (Written c × (inRange c ≡ true) × (s ≡ bytesOf c))
-  pub refused1 : (lineRefusal r ≡ 1) ↔ (240 < length s)
-  pub refused2 : (lineRefusal r ≡ 2) ↔ ((length s ≤ 240) × NoBytes s)
-  pub refused7 : (lineRefusal r ≡ 7) ↔ ((h : Header) × Written (header h) × (s ≡ bytesOf (header h)))
-  pub refused3 : (lineRefusal r ≡ 3) ↔ ((c : Content) × AfterHeader c × Written c × (inRange c ≡ false) × (s ≡ bytesOf c))
+  pub accepted : (c : Content) → AfterHeader c → ((lineRefusal r ≡ 0) × (lineContent r ≡ c)) ↔ (Writable c × (inRange c ≡ true) × (s ≡ bytesOf c))
+  pub refused1 : (lineRefusal r ≡ 1) ↔ (longestLine < length s)
+  pub refused2 : (lineRefusal r ≡ 2) ↔ ((length s ≤ longestLine) × NoBytes s)
+  pub refused7 : (lineRefusal r ≡ 7) ↔ ((h : Header) × Writable (header h) × (s ≡ bytesOf (header h)))
+  pub refused3 : (lineRefusal r ≡ 3) ↔ ((c : Content) × AfterHeader c × Writable c × (inRange c ≡ false) × (s ≡ bytesOf c))
   pub numbers : (AfterHeader (lineContent r) × (lineRefusal r ≡ 0)) ⊎ (lineRefusal r ≡ 1) ⊎ (lineRefusal r ≡ 2) ⊎ (lineRefusal r ≡ 7) ⊎ (lineRefusal r ≡ 3)
 
 -- what the answer r for a header line s says of it
 pub record HeaderReading (s : List ℕ) (r : HeaderLine) : Type 0 where
-  pub accepted : (h : Header) → ((headerRefusal r ≡ 0) × (headerContent r ≡ header h)) ↔ (Written (header h) × (inRange (header h) ≡ true) × (h .unscored ≤ h .loans) × (s ≡ bytesOf (header h)))
-  pub refused1 : (headerRefusal r ≡ 1) ↔ (240 < length s)
-  pub refused2 : (headerRefusal r ≡ 2) ↔ ((length s ≤ 240) × NoBytes s)
-  pub refused7 : (headerRefusal r ≡ 7) ↔ ((c : Content) × AfterHeader c × Written c × (s ≡ bytesOf c))
-  pub refused3 : (headerRefusal r ≡ 3) ↔ ((h : Header) × Written (header h) × (inRange (header h) ≡ false) × (s ≡ bytesOf (header h)))
-  pub refused4 : (headerRefusal r ≡ 4) ↔ ((h : Header) × Written (header h) × (inRange (header h) ≡ true) × (h .loans < h .unscored) × (s ≡ bytesOf (header h)))
+  pub accepted : (h : Header) → ((headerRefusal r ≡ 0) × (headerContent r ≡ header h)) ↔ (Writable (header h) × (inRange (header h) ≡ true) × (h .unscored ≤ h .loans) × (s ≡ bytesOf (header h)))
+  pub refused1 : (headerRefusal r ≡ 1) ↔ (longestLine < length s)
+  pub refused2 : (headerRefusal r ≡ 2) ↔ ((length s ≤ longestLine) × NoBytes s)
+  pub refused7 : (headerRefusal r ≡ 7) ↔ ((c : Content) × AfterHeader c × Writable c × (s ≡ bytesOf c))
+  pub refused3 : (headerRefusal r ≡ 3) ↔ ((h : Header) × Writable (header h) × (inRange (header h) ≡ false) × (s ≡ bytesOf (header h)))
+  pub refused4 : (headerRefusal r ≡ 4) ↔ ((h : Header) × Writable (header h) × (inRange (header h) ≡ true) × (h .loans < h .unscored) × (s ≡ bytesOf (header h)))
   pub numbers : ((h : Header) × (headerContent r ≡ header h) × (headerRefusal r ≡ 0)) ⊎ (headerRefusal r ≡ 1) ⊎ (headerRefusal r ≡ 2) ⊎ (headerRefusal r ≡ 7) ⊎ (headerRefusal r ≡ 3) ⊎ (headerRefusal r ≡ 4)
 
 -- No form is longer than 152 bytes, so refusal 1 meets none; its bytes give the data back; and a header in its ranges can be written.
 pub record BytesRead : Type 0 where
-  pub short : (c : Content) → Written c → length (bytesOf c) ≤ 152
-  pub back : (c : Content) → Written c → contentOf (bytesOf c) ≡ c
+  pub short : (c : Content) → Writable c → length (bytesOf c) ≤ 152
+  pub back : (c : Content) → Writable c → contentOf (bytesOf c) ≡ c
   pub header-back : (h : Header) → inRange (header h) ≡ true → h .unscored ≤ h .loans → headerOf (bytesOf (header h)) ≡ HeaderRead h

@@ -1,13 +1,13 @@
 -- 01, "A book, line by line": each form as it is shown there, its data, and its ranges with both ends.
 use Prim.Native.Nat.{ℕ}
 use mathlib.Core.Bool.{Bool, true, false, _&&_}
-use mathlib.Core.List.{List, [], _∷_}
+use mathlib.Core.List.{List, []}
 use mathlib.Core.Path.{_≡_}
 use Rattle.loan_charge.specs.declared.Score.{Score}
 use Rattle.loan_charge.specs.declared.Score.the-variants.{Scored, Unscored}
 use Rattle.exact.specs.Text.{text}
 use Rattle.exact.specs.Choice.{pick}
-use Rattle.line_forms.specs.Bytes.{within, same}
+use Rattle.line_forms.specs.Bytes.{within}
 use Rattle.line_forms.specs.Forms.{choicesOf, Form, field, end, number, signed, word, score, Values, AllWritable, formText}
 use Rattle.fixed_point.specs.declared.Signed.{Signed}
 use Rattle.line_forms.specs.declared.Header.{Header}
@@ -214,14 +214,14 @@ SignFits B n = n .minus ≡ 0
 SignFits C n = n .minus ≡ 0
 
 -- each number is one that its D or S can write
-abbrev pub Written : Content → Type 0
-Written (header h) = AllWritable headerForm (headerValues h)
-Written (loan l) = AllWritable loanForm (loanValues l)
-Written (policy p) = AllWritable policyForm (policyValues p)
-Written (derivative d) = AllWritable derivativeForm (derivativeValues d)
-Written (asset a) = AllWritable assetForm (assetValues a)
-Written (amount a) = AllWritable (amountForm (a .item)) (amountValues (a .item) (a .amount)) × SignFits (a .item) (a .amount)
-Written NoForm = ⊥
+abbrev pub Writable : Content → Type 0
+Writable (header h) = AllWritable headerForm (headerValues h)
+Writable (loan l) = AllWritable loanForm (loanValues l)
+Writable (policy p) = AllWritable policyForm (policyValues p)
+Writable (derivative d) = AllWritable derivativeForm (derivativeValues d)
+Writable (asset a) = AllWritable assetForm (assetValues a)
+Writable (amount a) = AllWritable (amountForm (a .item)) (amountValues (a .item) (a .amount)) × SignFits (a .item) (a .amount)
+Writable NoForm = ⊥
 
 unfoldable pub inRange : Content → Bool
 inRange (header h) = headerInRange h

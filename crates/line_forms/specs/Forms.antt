@@ -54,11 +54,11 @@ ScoreWritable (Scored n age) = (n < limit) × (age < limit)
 ScoreWritable Unscored = Unit {0}
 
 -- values that the field can write
-abbrev pub Writable : (k : Field) → Value k → Type 0
-Writable number n = n < limit
-Writable signed n = (n .plus < limit) × (n .minus < limit) × ((n .plus ≡ 0) ⊎ (n .minus ≡ 0))
-Writable (word choices) i = i < length choices
-Writable score q = ScoreWritable q
+abbrev pub FieldWritable : (k : Field) → Value k → Type 0
+FieldWritable number n = n < limit
+FieldWritable signed n = (n .plus < limit) × (n .minus < limit) × ((n .plus ≡ 0) ⊎ (n .minus ≡ 0))
+FieldWritable (word choices) i = i < length choices
+FieldWritable score q = ScoreWritable q
 
 abbrev pub fieldText : (k : Field) → Value k → List ℕ
 fieldText number n = decimal n
@@ -67,7 +67,7 @@ fieldText (word choices) i = getD choices i []
 fieldText score q = scoreText q
 
 abbrev pub AllWritable : (f : Form) → Values f → Type 0
-AllWritable (field t k f) v = Writable k (v .0) × AllWritable f (v .1)
+AllWritable (field t k f) v = FieldWritable k (v .0) × AllWritable f (v .1)
 AllWritable (end t) v = Unit {0}
 
 abbrev pub formText : (f : Form) → Values f → List ℕ

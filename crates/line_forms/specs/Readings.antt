@@ -146,9 +146,13 @@ lineFor (derivative d) = pick (derivativeInRange d) (DerivativeLine d) (Refusal 
 lineFor (asset a) = pick (assetInRange a) (AssetLine a) (Refusal 3)
 lineFor (amount a) = pick (amountInRange a) (AmountLine a) (Refusal 3)
 
+-- 01: "A line is at most 240 bytes, without its newline."
+abbrev pub longestLine : ℕ
+longestLine = 240
+
 -- Feeding tests 1, 2, 7, 3.
 unfoldable pub lineOf : List ℕ → Line
-lineOf s = pick (ltb 240 (length s)) (Refusal 1) (lineFor (contentOf s))
+lineOf s = pick (ltb longestLine (length s)) (Refusal 1) (lineFor (contentOf s))
 
 -- The answer for what a header line holds.
 unfoldable pub headerFor : Content → HeaderLine
@@ -163,4 +167,4 @@ headerFor (header h) =
 
 -- Opening tests 1, 2, 7, 3, 4.
 unfoldable pub headerOf : List ℕ → HeaderLine
-headerOf s = pick (ltb 240 (length s)) (HeaderRefusal 1) (headerFor (contentOf s))
+headerOf s = pick (ltb longestLine (length s)) (HeaderRefusal 1) (headerFor (contentOf s))

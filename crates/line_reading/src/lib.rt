@@ -4,11 +4,9 @@ ghost use Rattle.line_forms.specs.Claims.{LineReading, HeaderReading};
 ghost use Rattle.line_forms.specs.Readings.{lineOf, lineFor, headerOf, headerFor};
 use line_forms::Content;
 use line_forms::HeaderLine;
+use line_forms::LONGEST_LINE;
 use line_forms::Line;
 use line_forms::ranges;
-
-// A longer line is refused as 1.
-const LONGEST: usize = 240;
 
 fn line_for(c: Content) -> Line
     ensures { λ r. ⌜ r ≡ lineFor c ⌝ }
@@ -59,7 +57,7 @@ pub fn read_line(line: &[u8]) -> Line
     ensures equation { λ r. ⌜ r ≡ lineOf (now (line .entry)) ⌝ }
     ensures reading { λ r. ⌜ LineReading (now (line .entry)) r ⌝ }
 {
-    if LONGEST < line.len() {
+    if LONGEST_LINE < line.len() {
         return Line::Refusal(1);
     }
     line_for(line_contents::content(line))
@@ -92,7 +90,7 @@ pub fn read_header(line: &[u8]) -> HeaderLine
     ensures equation { λ r. ⌜ r ≡ headerOf (now (line .entry)) ⌝ }
     ensures reading { λ r. ⌜ HeaderReading (now (line .entry)) r ⌝ }
 {
-    if LONGEST < line.len() {
+    if LONGEST_LINE < line.len() {
         return HeaderLine::Refusal(1);
     }
     header_for(line_contents::content(line))

@@ -1,5 +1,5 @@
 -- `number` meets its contract.
-use mathlib.Core.Path.{_≡_, sym, _∙_, ap}
+use mathlib.Core.Path.{_≡_, _∙_, ap}
 use mathlib.Core.Bool.{true}
 use Rattle.line_forms.specs.Bytes.{allWithin}
 use native.Mathlib.Omega.{arith}

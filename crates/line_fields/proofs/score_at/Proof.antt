@@ -1,11 +1,8 @@
 -- `score_at` meets its contract.
 use mathlib.Core.Path.{sym, _∙_, ap}
 use native.Mathlib.Omega.{arith}
-use mathlib.Core.Bool.{true, false}
 use lib.ListN.{length}
 use Rattle.exact.specs.Text.{text}
-use Rattle.line_forms.specs.Bytes.{standsAt}
-use Rattle.line_forms.specs.Parsing.{afterNumber}
 use Rattle.line_forms.proofs.Bytes.{stands-fits, run-fits}
 use Rattle.line_forms.proofs.ScoreLaws.{score-scored, score-none, score-missing}
 use borrow.Author.Needs.{needs}
