@@ -26,7 +26,7 @@ use Rattle.line_forms.proofs.Sizes.{content-size}
 -- The rules of header reading, one for each answer.
 data Answer (s : List ℕ) : HeaderLine → Type 0 where
   long : 240 < length s → Answer s (HeaderRefusal 1)
-  none : length s ≤ 240 → NoBytes s → Answer s (HeaderRefusal 2)
+  formless : length s ≤ 240 → NoBytes s → Answer s (HeaderRefusal 2)
   other : (c : Content) → AfterHeader c → Writable c → s ≡ bytesOf c → Answer s (HeaderRefusal 7)
   out : (h : Header) → Writable (header h) → inRange (header h) ≡ false → s ≡ bytesOf (header h) → Answer s (HeaderRefusal 3)
   over : (h : Header) → Writable (header h) → inRange (header h) ≡ true → h .loans < h .unscored → s ≡ bytesOf (header h) → Answer s (HeaderRefusal 4)
@@ -51,7 +51,7 @@ answer-for s NoForm w e = absurd w
 -- the answer obeys a rule
 answered : (s : List ℕ) → Answer s (headerOf s)
 unfolding headerOf headerFor
-answered s = answer-cases (HeaderRefusal 1) headerFor s (λ r. Answer s r) (λ l. long l) (λ l n. none l n) (λ c w e. answer-for s c w e)
+answered s = answer-cases (HeaderRefusal 1) headerFor s (λ r. Answer s r) (λ l. long l) (λ l n. formless l n) (λ c w e. answer-for s c w e)
 
 -- a rule gives its answer
 other-form : (c : Content) → AfterHeader c → headerFor c ≡ HeaderRefusal 7
@@ -75,7 +75,7 @@ read-as s c w e = answer-held (HeaderRefusal 1) headerFor s c w e
 answers : (s : List ℕ) (r : HeaderLine) → Answer s r → headerOf s ≡ r
 unfolding headerOf headerFor
 answers s r (long l) = answer-long (HeaderRefusal 1) headerFor s l
-answers s r (none l n) = answer-none (HeaderRefusal 1) headerFor s l n
+answers s r (formless l n) = answer-none (HeaderRefusal 1) headerFor s l n
 answers s r (other c a w e) = read-as s c w e ∙ other-form c a
 answers s r (out h w o e) = read-as s (header h) w e ∙ header-range h ∙ rw o
 answers s r (over h w o l e) = read-as s (header h) w e ∙ header-range h ∙ rw (o, lt-ltb (h .loans) (h .unscored) l)
@@ -84,7 +84,7 @@ answers s r (held h w o l e) = read-as s (header h) w e ∙ header-range h ∙ r
 -- an answer's number tells the rule
 rule1 : (s : List ℕ) (r : HeaderLine) → Answer s r → headerRefusal r ≡ 1 → 240 < length s
 rule1 s r (long l) q = l
-rule1 s r (none l n) q = absurd (omega arith)
+rule1 s r (formless l n) q = absurd (omega arith)
 rule1 s r (other c a w e) q = absurd (omega arith)
 rule1 s r (out h w o e) q = absurd (omega arith)
 rule1 s r (over h w o l e) q = absurd (omega arith)
@@ -92,7 +92,7 @@ rule1 s r (held h w o l e) q = absurd (omega arith)
 
 rule2 : (s : List ℕ) (r : HeaderLine) → Answer s r → headerRefusal r ≡ 2 → (length s ≤ 240) × NoBytes s
 rule2 s r (long l) q = absurd (omega arith)
-rule2 s r (none l n) q = (l, n)
+rule2 s r (formless l n) q = (l, n)
 rule2 s r (other c a w e) q = absurd (omega arith)
 rule2 s r (out h w o e) q = absurd (omega arith)
 rule2 s r (over h w o l e) q = absurd (omega arith)
@@ -100,7 +100,7 @@ rule2 s r (held h w o l e) q = absurd (omega arith)
 
 rule7 : (s : List ℕ) (r : HeaderLine) → Answer s r → headerRefusal r ≡ 7 → (c : Content) × AfterHeader c × Writable c × (s ≡ bytesOf c)
 rule7 s r (long l) q = absurd (omega arith)
-rule7 s r (none l n) q = absurd (omega arith)
+rule7 s r (formless l n) q = absurd (omega arith)
 rule7 s r (other c a w e) q = (c, a, w, e)
 rule7 s r (out h w o e) q = absurd (omega arith)
 rule7 s r (over h w o l e) q = absurd (omega arith)
@@ -108,7 +108,7 @@ rule7 s r (held h w o l e) q = absurd (omega arith)
 
 rule3 : (s : List ℕ) (r : HeaderLine) → Answer s r → headerRefusal r ≡ 3 → (h : Header) × Writable (header h) × (inRange (header h) ≡ false) × (s ≡ bytesOf (header h))
 rule3 s r (long l) q = absurd (omega arith)
-rule3 s r (none l n) q = absurd (omega arith)
+rule3 s r (formless l n) q = absurd (omega arith)
 rule3 s r (other c a w e) q = absurd (omega arith)
 rule3 s r (out h w o e) q = (h, w, o, e)
 rule3 s r (over h w o l e) q = absurd (omega arith)
@@ -116,7 +116,7 @@ rule3 s r (held h w o l e) q = absurd (omega arith)
 
 rule4 : (s : List ℕ) (r : HeaderLine) → Answer s r → headerRefusal r ≡ 4 → (h : Header) × Writable (header h) × (inRange (header h) ≡ true) × (h .loans < h .unscored) × (s ≡ bytesOf (header h))
 rule4 s r (long l) q = absurd (omega arith)
-rule4 s r (none l n) q = absurd (omega arith)
+rule4 s r (formless l n) q = absurd (omega arith)
 rule4 s r (other c a w e) q = absurd (omega arith)
 rule4 s r (out h w o e) q = absurd (omega arith)
 rule4 s r (over h w o l e) q = (h, w, o, l, e)
@@ -125,7 +125,7 @@ rule4 s r (held h w o l e) q = absurd (omega arith)
 numbers : (s : List ℕ) (r : HeaderLine) → Answer s r → ((h : Header) × (headerContent r ≡ header h) × (headerRefusal r ≡ 0)) ⊎ (headerRefusal r ≡ 1) ⊎ (headerRefusal r ≡ 2) ⊎ (headerRefusal r ≡ 7) ⊎ (headerRefusal r ≡ 3) ⊎ (headerRefusal r ≡ 4)
 numbers s r (held h w o l e) = inl (h, refl, refl)
 numbers s r (long l) = inr (inl refl)
-numbers s r (none l k) = inr (inr (inl refl))
+numbers s r (formless l k) = inr (inr (inl refl))
 numbers s r (other c a w e) = inr (inr (inr (inl refl)))
 numbers s r (out h w o e) = inr (inr (inr (inr (inl refl))))
 numbers s r (over h w o l e) = inr (inr (inr (inr (inr refl))))
@@ -143,7 +143,7 @@ headerIn g NoForm = g
 rule0 : (s : List ℕ) (r : HeaderLine) → Answer s r → headerRefusal r ≡ 0 → (g : Header) → headerContent r ≡ header g → Writable (header g) × (inRange (header g) ≡ true) × (g .unscored ≤ g .loans) × (s ≡ bytesOf (header g))
 unfolding headerIn
 rule0 s r (long l) q g z = absurd (omega arith)
-rule0 s r (none l n) q g z = absurd (omega arith)
+rule0 s r (formless l n) q g z = absurd (omega arith)
 rule0 s r (other c a w e) q g z = absurd (omega arith)
 rule0 s r (out h w o e) q g z = absurd (omega arith)
 rule0 s r (over h w o l e) q g z = absurd (omega arith)
@@ -162,7 +162,7 @@ header-reading s = record {
   refused1 = (λ e. rule1 s (headerOf s) (answered s) e, λ l. ap headerRefusal (answers s (HeaderRefusal 1) (long l)));
   refused2 = (
     λ e. rule2 s (headerOf s) (answered s) e,
-    λ k. ap headerRefusal (answers s (HeaderRefusal 2) (none (k .0) (k .1))),
+    λ k. ap headerRefusal (answers s (HeaderRefusal 2) (formless (k .0) (k .1))),
   );
   refused7 = (
     λ e. rule7 s (headerOf s) (answered s) e,

@@ -20,7 +20,7 @@ use Rattle.line_forms.proofs.AnswerLaws.{answer-long, answer-none, answ
 -- The rules of line reading, one for each answer.
 data Answer (s : List ℕ) : Line → Type 0 where
   long : 240 < length s → Answer s (Refusal 1)
-  none : length s ≤ 240 → NoBytes s → Answer s (Refusal 2)
+  formless : length s ≤ 240 → NoBytes s → Answer s (Refusal 2)
   head : (h : Header) → Writable (header h) → s ≡ bytesOf (header h) → Answer s (Refusal 7)
   out : (c : Content) → AfterHeader c → Writable c → inRange c ≡ false → s ≡ bytesOf c → Answer s (Refusal 3)
   held : (c : Content) → AfterHeader c → Writable c → inRange c ≡ true → s ≡ bytesOf c → Answer s (lineWith c)
@@ -43,7 +43,7 @@ answer-for s NoForm w e = absurd w
 -- the answer obeys a rule
 answered : (s : List ℕ) → Answer s (lineOf s)
 unfolding lineOf lineFor
-answered s = answer-cases (Refusal 1) lineFor s (λ r. Answer s r) (λ l. long l) (λ l n. none l n) (λ c w e. answer-for s c w e)
+answered s = answer-cases (Refusal 1) lineFor s (λ r. Answer s r) (λ l. long l) (λ l n. formless l n) (λ c w e. answer-for s c w e)
 
 -- a rule gives its answer
 line-range : (c : Content) → AfterHeader c → lineFor c ≡ pick (inRange c) (lineWith c) (Refusal 3)
@@ -63,7 +63,7 @@ read-as s c w e = answer-held (Refusal 1) lineFor s c w e
 answers : (s : List ℕ) (r : Line) → Answer s r → lineOf s ≡ r
 unfolding lineOf lineFor
 answers s r (long l) = answer-long (Refusal 1) lineFor s l
-answers s r (none l n) = answer-none (Refusal 1) lineFor s l n
+answers s r (formless l n) = answer-none (Refusal 1) lineFor s l n
 answers s r (head h w e) = read-as s (header h) w e
 answers s r (out c a w o e) = read-as s c w e ∙ line-range c a ∙ rw o
 answers s r (held c a w o e) = read-as s c w e ∙ line-range c a ∙ rw o
@@ -89,28 +89,28 @@ accepted-data NoForm a = absurd a
 -- an answer's number tells the rule
 rule1 : (s : List ℕ) (r : Line) → Answer s r → lineRefusal r ≡ 1 → 240 < length s
 rule1 s r (long l) q = l
-rule1 s r (none l n) q = absurd (omega arith)
+rule1 s r (formless l n) q = absurd (omega arith)
 rule1 s r (head h w e) q = absurd (omega arith)
 rule1 s r (out c a w o e) q = absurd (omega arith)
 rule1 s r (held c a w o e) q = absurd (omega (arith, accepted-number c a))
 
 rule2 : (s : List ℕ) (r : Line) → Answer s r → lineRefusal r ≡ 2 → (length s ≤ 240) × NoBytes s
 rule2 s r (long l) q = absurd (omega arith)
-rule2 s r (none l n) q = (l, n)
+rule2 s r (formless l n) q = (l, n)
 rule2 s r (head h w e) q = absurd (omega arith)
 rule2 s r (out c a w o e) q = absurd (omega arith)
 rule2 s r (held c a w o e) q = absurd (omega (arith, accepted-number c a))
 
 rule7 : (s : List ℕ) (r : Line) → Answer s r → lineRefusal r ≡ 7 → (h : Header) × Writable (header h) × (s ≡ bytesOf (header h))
 rule7 s r (long l) q = absurd (omega arith)
-rule7 s r (none l n) q = absurd (omega arith)
+rule7 s r (formless l n) q = absurd (omega arith)
 rule7 s r (head h w e) q = (h, w, e)
 rule7 s r (out c a w o e) q = absurd (omega arith)
 rule7 s r (held c a w o e) q = absurd (omega (arith, accepted-number c a))
 
 rule3 : (s : List ℕ) (r : Line) → Answer s r → lineRefusal r ≡ 3 → (c : Content) × AfterHeader c × Writable c × (inRange c ≡ false) × (s ≡ bytesOf c)
 rule3 s r (long l) q = absurd (omega arith)
-rule3 s r (none l n) q = absurd (omega arith)
+rule3 s r (formless l n) q = absurd (omega arith)
 rule3 s r (head h w e) q = absurd (omega arith)
 rule3 s r (out c a w o e) q = (c, a, w, o, e)
 rule3 s r (held c a w o e) q = absurd (omega (arith, accepted-number c a))
@@ -118,13 +118,13 @@ rule3 s r (held c a w o e) q = absurd (omega (arith, accepted-number c a))
 numbers : (s : List ℕ) (r : Line) → Answer s r → (AfterHeader (lineContent r) × (lineRefusal r ≡ 0)) ⊎ (lineRefusal r ≡ 1) ⊎ (lineRefusal r ≡ 2) ⊎ (lineRefusal r ≡ 7) ⊎ (lineRefusal r ≡ 3)
 numbers s r (held c a w o e) = inl (rw (accepted-data c a) a, accepted-number c a)
 numbers s r (long l) = inr (inl refl)
-numbers s r (none l k) = inr (inr (inl refl))
+numbers s r (formless l k) = inr (inr (inl refl))
 numbers s r (head h w e) = inr (inr (inr (inl refl)))
 numbers s r (out c a w o e) = inr (inr (inr (inr refl)))
 
 rule0 : (s : List ℕ) (r : Line) → Answer s r → lineRefusal r ≡ 0 → (c : Content) → lineContent r ≡ c → Writable c × (inRange c ≡ true) × (s ≡ bytesOf c)
 rule0 s r (long l) q c z = absurd (omega arith)
-rule0 s r (none l n) q c z = absurd (omega arith)
+rule0 s r (formless l n) q c z = absurd (omega arith)
 rule0 s r (head h w e) q c z = absurd (omega arith)
 rule0 s r (out d b w o e) q c z = absurd (omega arith)
 rule0 s r (held d b w o e) q c z =
@@ -139,7 +139,7 @@ line-reading s = record {
   numbers = numbers s (lineOf s) (answered s);
   refused1 = (λ e. rule1 s (lineOf s) (answered s) e, λ l. ap lineRefusal (answers s (Refusal 1) (long l)));
   refused2 =
-      (λ e. rule2 s (lineOf s) (answered s) e, λ k. ap lineRefusal (answers s (Refusal 2) (none (k .0) (k .1))));
+      (λ e. rule2 s (lineOf s) (answered s) e, λ k. ap lineRefusal (answers s (Refusal 2) (formless (k .0) (k .1))));
   refused7 = (
     λ e. rule7 s (lineOf s) (answered s) e,
     λ k. ap lineRefusal (answers s (Refusal 7) (head (k .0) (k .1) (k .2))),
