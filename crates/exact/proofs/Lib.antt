@@ -1,5 +1,6 @@
 pub mod Addition
 pub mod Bridge
+pub mod Decimal
 pub mod Dependence
 pub mod Enclosure
 pub mod Examples

@@ -1,4 +1,5 @@
 pub mod Choice
+pub mod Decimal
 pub mod Examples
 pub mod Exponential
 pub mod Fraction

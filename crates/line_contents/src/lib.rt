@@ -1,6 +1,9 @@
 // A reader for each form, and which of them a line's name asks for: from the bytes of a line to the data it holds.
+ghost use mathlib.Core.Bool.{true, false};
 ghost use mathlib.Core.Path.{_≡_};
-ghost use Rattle.line_forms.specs.Readings.{classAt, kindAt, headerHeld, loanHeld, policyHeld, derivativeHeld, assetHeld, plainHeld, signedHeld, amountHeld, contentOf};
+ghost use Rattle.exact.specs.Text.{text};
+ghost use Rattle.line_forms.specs.Bytes.{standsAt};
+ghost use Rattle.line_forms.specs.Readings.{classAt, kindAt, headerHeld, loanHeld, policyHeld, derivativeHeld, assetHeld, plainHeld, signedHeld, contentOf};
 use fixed_point::Signed;
 use line_forms::Amount;
 use line_forms::Asset;
@@ -12,14 +15,13 @@ use line_forms::Item;
 use line_forms::Kind;
 use line_forms::Loan;
 use line_forms::Policy;
-use loan_charge::Score;
 
 fn header(line: &[u8]) -> Content
     ensures { λ r. ⌜ r ≡ headerHeld (now (line .entry)) ⌝ }
 {
     let loans = line_fields::number_after(line, 0, b"(book (loans ");
     let unscored = line_fields::number_after(line, loans.next, b") (unscored ");
-    let scores = line_fields::pair_after(line, unscored.next, b") (scores ", b"fresh", b"aged");
+    let scores = line_fields::word_after(line, unscored.next, b") (scores ", b"fresh|aged");
     let held = line_fields::number_after(line, scores.next, b") (held ");
     if line_fields::skip(line, held.next, b"))") == line.len() {
         return Content::Header(Header {
@@ -32,37 +34,40 @@ fn header(line: &[u8]) -> Content
     Content::NoForm
 }
 
+// A line that begins as a loan. Each text that does not stand ends the reading, so that the next field is begun before the text is compared.
 fn loan(line: &[u8]) -> Content
+    requires { ⌜ standsAt (now line) 0 (text "(loan (bal ") ≡ true ⌝ }
     ensures { λ r. ⌜ r ≡ loanHeld (now (line .entry)) ⌝ }
 {
-    let balance = line_fields::number_after(line, 0, b"(loan (bal ");
-    let value = line_fields::number_after(line, balance.next, b") (val ");
-    let amortization = line_fields::number_after(line, value.next, b") (amort ");
-    let term = line_fields::number_after(line, amortization.next, b") (term ");
-    let number = line_fields::number_after(line, term.next, b") (score ");
-    let age = line_fields::number_after(line, number.next, b" ");
-    let supplement = line_fields::number_after(line, age.next, b") (sup ");
-    if line_fields::skip(line, supplement.next, b"))") == line.len() {
-        return Content::Loan(Loan {
-            balance: balance.value,
-            value: value.value,
-            amortization: amortization.value,
-            term: term.value,
-            score: Score::Scored {
-                number: number.value,
-                age: age.value,
-            },
-            supplement: supplement.value,
-        });
+    let balance = line_fields::long_at(line, 11);
+    if !line_fields::stands(line, balance.next, b") (val ") {
+        return Content::NoForm;
     }
-    let supplement = line_fields::number_after(line, term.next, b") (score none) (sup ");
+    let value = line_fields::long_at(line, balance.next + 7);
+    if !line_fields::stands(line, value.next, b") (amort ") {
+        return Content::NoForm;
+    }
+    let amortization = line_fields::short_at(line, value.next + 9);
+    if !line_fields::stands(line, amortization.next, b") (term ") {
+        return Content::NoForm;
+    }
+    let term = line_fields::short_at(line, amortization.next + 8);
+    if !line_fields::stands(line, term.next, b") (score ") {
+        return Content::NoForm;
+    }
+    let score = line_fields::score_at(line, term.next + 9);
+    if !line_fields::stands(line, score.next, b") (sup ") {
+        return Content::NoForm;
+    }
+    let supplement = line_fields::short_at(line, score.next + 7);
     if line_fields::skip(line, supplement.next, b"))") == line.len() {
+        let q = score.score;
         return Content::Loan(Loan {
             balance: balance.value,
             value: value.value,
             amortization: amortization.value,
             term: term.value,
-            score: Score::Unscored,
+            score: q,
             supplement: supplement.value,
         });
     }
@@ -81,7 +86,7 @@ fn class_at(place: u64) -> Class
 fn policy(line: &[u8]) -> Content
     ensures { λ r. ⌜ r ≡ policyHeld (now (line .entry)) ⌝ }
 {
-    let class = line_fields::pair_after(line, 0, b"(policy (class ", b"home", b"multi");
+    let class = line_fields::word_after(line, 0, b"(policy (class ", b"home|multi");
     let premium = line_fields::number_after(line, class.next, b") (prem ");
     let term = line_fields::number_after(line, premium.next, b") (term ");
     let completed = line_fields::number_after(line, term.next, b") (done ");
@@ -99,28 +104,25 @@ fn policy(line: &[u8]) -> Content
 fn kind_at(place: u64) -> Kind
     ensures { λ r. ⌜ r ≡ kindAt place ⌝ }
 {
-    if place == 0 {
-        return Kind::Rate;
+    match place {
+        0 => Kind::Rate,
+        1 => Kind::Float,
+        2 => Kind::Fx,
+        3 => Kind::Equity,
+        4 => Kind::Metal,
+        _ => Kind::Other,
     }
-    if place == 1 {
-        return Kind::Float;
-    }
-    if place == 2 {
-        return Kind::Fx;
-    }
-    if place == 3 {
-        return Kind::Equity;
-    }
-    if place == 4 {
-        return Kind::Metal;
-    }
-    Kind::Other
 }
 
 fn derivative(line: &[u8]) -> Content
     ensures { λ r. ⌜ r ≡ derivativeHeld (now (line .entry)) ⌝ }
 {
-    let kind = line_fields::kind_after(line, 0, b"(deriv (kind ");
+    let kind = line_fields::word_after(
+        line,
+        0,
+        b"(deriv (kind ",
+        b"rate|float|fx|equity|metal|other",
+    );
     let cost = line_fields::signed_after(line, kind.next, b") (cost ");
     let notional = line_fields::number_after(line, cost.next, b") (notional ");
     let months = line_fields::number_after(line, notional.next, b") (months ");
@@ -183,52 +185,40 @@ fn signed(line: &[u8], item: Item, text: &[u8]) -> Content
     Content::NoForm
 }
 
-fn amount(name: &[u8], line: &[u8]) -> Content
-    ensures { λ r. ⌜ r ≡ amountHeld (now (name .entry)) (now (line .entry)) ⌝ }
+// What a line that does not begin as a loan holds, by the name after its opening bracket.
+fn other(line: &[u8]) -> Content
+    requires { ⌜ standsAt (now line) 0 (text "(loan (bal ") ≡ false ⌝ }
+    ensures { λ r. ⌜ r ≡ contentOf (now (line .entry)) ⌝ }
 {
-    if line_fields::same(name, b"claims") {
-        return plain(line, Item::Claims, b"(claims ");
+    let name = line_fields::word_at(
+        line,
+        1,
+        b"loan|policy|deriv|asset|book|claims|lossc|stated|equity|aoci|b|c",
+    );
+    let place = name.value;
+    match place {
+        0 => Content::NoForm,
+        1 => policy(line),
+        2 => derivative(line),
+        3 => asset(line),
+        4 => header(line),
+        5 => plain(line, Item::Claims, b"(claims "),
+        6 => plain(line, Item::Lossc, b"(lossc "),
+        7 => plain(line, Item::Stated, b"(stated "),
+        8 => signed(line, Item::Equity, b"(equity "),
+        9 => signed(line, Item::Aoci, b"(aoci "),
+        10 => plain(line, Item::B, b"(b "),
+        11 => plain(line, Item::C, b"(c "),
+        _ => Content::NoForm,
     }
-    if line_fields::same(name, b"lossc") {
-        return plain(line, Item::Lossc, b"(lossc ");
-    }
-    if line_fields::same(name, b"stated") {
-        return plain(line, Item::Stated, b"(stated ");
-    }
-    if line_fields::same(name, b"equity") {
-        return signed(line, Item::Equity, b"(equity ");
-    }
-    if line_fields::same(name, b"aoci") {
-        return signed(line, Item::Aoci, b"(aoci ");
-    }
-    if line_fields::same(name, b"b") {
-        return plain(line, Item::B, b"(b ");
-    }
-    if line_fields::same(name, b"c") {
-        return plain(line, Item::C, b"(c ");
-    }
-    Content::NoForm
 }
 
-// What a line holds, by the name after its opening bracket.
+// What a line holds. Most lines are loans, so this form is tried first.
 pub fn content(line: &[u8]) -> Content
     ensures { λ r. ⌜ r ≡ contentOf (now (line .entry)) ⌝ }
 {
-    let name = line_fields::run(line, 1, b'a', b'z');
-    if line_fields::same(name, b"loan") {
+    if line_fields::stands(line, 0, b"(loan (bal ") {
         return loan(line);
     }
-    if line_fields::same(name, b"policy") {
-        return policy(line);
-    }
-    if line_fields::same(name, b"deriv") {
-        return derivative(line);
-    }
-    if line_fields::same(name, b"asset") {
-        return asset(line);
-    }
-    if line_fields::same(name, b"book") {
-        return header(line);
-    }
-    amount(name, line)
+    other(line)
 }

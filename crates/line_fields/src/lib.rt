@@ -1,20 +1,26 @@
 // Readers of a field: a text, a run of bytes, a number.
-ghost use mathlib.Core.List.{[], _∷_};
 ghost use mathlib.Core.Path.{_≡_};
-ghost use Prim.Native.Nat.{_+_, _-_, _≤_};
-ghost use lib.Dec.{ltb};
-ghost use lib.ListN.{length, drop};
-ghost use Rattle.exact.specs.Choice.{pick};
-ghost use Rattle.line_forms.specs.Bytes.{same as sameBytes, after, past, runOf, within};
-ghost use Rattle.line_forms.specs.Numerals.{numberOf};
-ghost use Rattle.line_forms.specs.Parsing.{numberAt, afterNumber, minusAt, signedAt, afterSigned, negativeAt, afterNegative, placeOf, afterWord, lettersAt};
-ghost use Rattle.line_forms.specs.Contents.{kinds};
+ghost use Prim.Native.Nat.{_-_, _≤_, _<_};
+ghost use mathlib.Core.Bool.{true};
+ghost use lib.ListN.{length, drop, getD};
+ghost use Rattle.line_forms.specs.Bytes.{same as sameBytes, standsAt, after, past, runOf, within, allWithin};
+ghost use Rattle.line_forms.specs.Forms.{choicesOf};
+ghost use Rattle.line_forms.specs.Numerals.{mostDigits, valueFrom};
+ghost use Rattle.line_forms.specs.Parsing.{digitsAt, numberAt, afterNumber, minusAt, signedAt, afterSigned, negativeAt, afterNegative, placeOf, afterWord, lettersAt, scoreAt, afterScore};
 use fixed_point::Signed;
-use line_forms::Number;
+use loan_charge::Score;
+
+// The most digits of a D.
+const MOST_DIGITS: usize = 14;
 
 // A field's value and the position after it; past the end of the line where the field does not stand there.
 pub struct Found {
     pub value: u64,
+    pub next: usize,
+}
+
+pub struct FoundScore {
+    pub score: Score,
     pub next: usize,
 }
 
@@ -40,38 +46,42 @@ fn inside(b: u8, low: u8, high: u8) -> bool
 pub fn same(a: &[u8], b: &[u8]) -> bool
     ensures { λ r. ⌜ r ≡ sameBytes (now (a .entry)) (now (b .entry)) ⌝ }
 {
-    if a.len() == b.len() {
-        let mut i = 0;
-        while i < a.len() {
-            if a[i] != b[i] {
-                return false;
-            }
-            i += 1;
-        }
-        true
-    } else {
-        false
+    if a.len() != b.len() {
+        return false;
     }
+    let mut all = true;
+    let mut i = 0;
+    while i < b.len() {
+        all = all & (a[i] == b[i]);
+        i += 1;
+    }
+    all
+}
+
+// Whether the text stands at a position. Nothing is left early, so that the compiler compares eight bytes at once.
+pub fn stands(line: &[u8], at: usize, text: &[u8]) -> bool
+    ensures { λ r. ⌜ r ≡ standsAt (now (line .entry)) at (now (text .entry)) ⌝ }
+{
+    let size = line.len();
+    let n = text.len();
+    if size < at {
+        return false;
+    }
+    if size - at < n {
+        return false;
+    }
+    let end = at + n;
+    same(&line[at..end], text)
 }
 
 // The position after the text where it stands at `at`, else past the end.
 pub fn skip(line: &[u8], at: usize, text: &[u8]) -> usize
     ensures { λ r. ⌜ r ≡ after (now (line .entry)) at (now (text .entry)) ⌝ }
 {
-    let size = line.len();
-    let n = text.len();
-    if size < at {
-        return size + 1;
+    if stands(line, at, text) {
+        return at + text.len();
     }
-    if size - at < n {
-        return size + 1;
-    }
-    let end = at + n;
-    if same(&line[at..end], text) {
-        end
-    } else {
-        size + 1
-    }
+    line.len() + 1
 }
 
 // The field reader: the bytes from `at` on that lie between low and high, as a part of the caller's line.
@@ -91,31 +101,166 @@ pub fn run(line: &[u8], at: usize, low: u8, high: u8) -> &[u8]
     &line[at..end]
 }
 
-// The number reader: what a part of a line, of any bytes, says as a D.
-pub fn number(digits: &[u8]) -> Number
-    ensures { λ r. ⌜ r ≡ numberOf (now (digits .entry)) ⌝ }
+fn digit(b: u8) -> bool
+    ensures { λ r. ⌜ r ≡ within 48 57 b ⌝ }
 {
-    let n = digits.len();
-    if n == 0 {
-        return Number::Missing;
-    }
-    if 14 < n {
-        return Number::Missing;
-    }
-    if (digits[0] == b'0') & (1 < n) {
-        return Number::Missing;
-    }
-    let mut value: u64 = 0;
+    inside(b, b'0', b'9')
+}
+
+fn all_digits(part: &[u8]) -> bool
+    ensures { λ r. ⌜ r ≡ allWithin 48 57 (now (part .entry)) ⌝ }
+{
+    let mut all = true;
     let mut i = 0;
-    while i < n {
-        let b = digits[i];
-        if !inside(b, b'0', b'9') {
-            return Number::Missing;
-        }
-        value = value * 10 + wide(b - b'0');
+    while i < part.len() {
+        all = all & digit(part[i]);
         i += 1;
     }
-    Number::Value(value)
+    all
+}
+
+// The field reader where one to three digits are likely: the same part of the line, with no loop for so few.
+fn few_digits(line: &[u8], at: usize) -> &[u8]
+    ensures { λ r. ⌜ now r ≡ digitsAt (now (line .entry)) at ⌝ }
+{
+    let size = line.len();
+    if size <= at {
+        return run(line, at, b'0', b'9');
+    }
+    if size - at <= 3 {
+        return run(line, at, b'0', b'9');
+    }
+    if !digit(line[at]) {
+        return run(line, at, b'0', b'9');
+    }
+    let one = at + 1;
+    if !digit(line[one]) {
+        return &line[at..one];
+    }
+    let two = at + 2;
+    if !digit(line[two]) {
+        return &line[at..two];
+    }
+    let three = at + 3;
+    if !digit(line[three]) {
+        return &line[at..three];
+    }
+    run(line, at, b'0', b'9')
+}
+
+// The field reader where eight or nine digits are likely: eight are tested at once.
+fn many_digits(line: &[u8], at: usize) -> &[u8]
+    ensures { λ r. ⌜ now r ≡ digitsAt (now (line .entry)) at ⌝ }
+{
+    let size = line.len();
+    if size <= at {
+        return run(line, at, b'0', b'9');
+    }
+    if size - at <= 9 {
+        return run(line, at, b'0', b'9');
+    }
+    let eight = at + 8;
+    if !all_digits(&line[at..eight]) {
+        return run(line, at, b'0', b'9');
+    }
+    if !digit(line[eight]) {
+        return &line[at..eight];
+    }
+    let nine = at + 9;
+    if !digit(line[nine]) {
+        return &line[at..nine];
+    }
+    run(line, at, b'0', b'9')
+}
+
+fn digit_at(digits: &[u8], i: usize) -> u64
+    requires { ⌜ (allWithin 48 57 (now digits) ≡ true) × (i < length (now digits)) ⌝ }
+    ensures { λ r. ⌜ (r ≡ getD (now (digits .entry)) i 0 - 48) × (r ≤ 9) ⌝ }
+{
+    wide(digits[i] - b'0')
+}
+
+fn value_of(digits: &[u8]) -> u64
+    requires { ⌜ (allWithin 48 57 (now digits) ≡ true) × (length (now digits) ≤ mostDigits) ⌝ }
+    ensures { λ r. ⌜ r ≡ valueFrom 0 (now (digits .entry)) ⌝ }
+{
+    let mut value: u64 = 0;
+    let mut i = 0;
+    while i < digits.len() {
+        value = value * 10 + digit_at(digits, i);
+        i += 1;
+    }
+    value
+}
+
+// The same of one to three digits, with no loop.
+fn few_value(digits: &[u8]) -> u64
+    requires { ⌜ (allWithin 48 57 (now digits) ≡ true) × (0 < length (now digits)) × (length (now digits) ≤ 3) ⌝ }
+    ensures { λ r. ⌜ r ≡ valueFrom 0 (now (digits .entry)) ⌝ }
+{
+    let one = digit_at(digits, 0);
+    if digits.len() == 1 {
+        return one;
+    }
+    let two = one * 10 + digit_at(digits, 1);
+    if digits.len() == 2 {
+        return two;
+    }
+    two * 10 + digit_at(digits, 2)
+}
+
+// The number reader: what the digits at a position, a part of the line, say as a D.
+fn number(line: &[u8], at: usize, digits: &[u8]) -> Found
+    requires { ⌜ now digits ≡ digitsAt (now line) at ⌝ }
+    ensures { λ r. ⌜ (r .value ≡ numberAt (now (line .entry)) at) × (r .next ≡ afterNumber (now (line .entry)) at) ⌝ }
+{
+    let n = digits.len();
+    if (n == 0) | (MOST_DIGITS < n) {
+        return missing(line);
+    }
+    if (digits[0] == b'0') & (1 < n) {
+        return missing(line);
+    }
+    if n <= 3 {
+        return Found {
+            value: few_value(digits),
+            next: at + n,
+        };
+    }
+    Found {
+        value: value_of(digits),
+        next: at + n,
+    }
+}
+
+fn missing(line: &[u8]) -> Found
+    ensures { λ r. ⌜ (r .value ≡ 0) × (r .next ≡ past (now (line .entry))) ⌝ }
+{
+    Found {
+        value: 0,
+        next: line.len() + 1,
+    }
+}
+
+// The D at a position, of any length.
+pub fn number_at(line: &[u8], at: usize) -> Found
+    ensures { λ r. ⌜ (r .value ≡ numberAt (now (line .entry)) at) × (r .next ≡ afterNumber (now (line .entry)) at) ⌝ }
+{
+    number(line, at, run(line, at, b'0', b'9'))
+}
+
+// The same, soonest where one to three digits stand.
+pub fn short_at(line: &[u8], at: usize) -> Found
+    ensures { λ r. ⌜ (r .value ≡ numberAt (now (line .entry)) at) × (r .next ≡ afterNumber (now (line .entry)) at) ⌝ }
+{
+    number(line, at, few_digits(line, at))
+}
+
+// The same, soonest where eight or nine digits stand.
+pub fn long_at(line: &[u8], at: usize) -> Found
+    ensures { λ r. ⌜ (r .value ≡ numberAt (now (line .entry)) at) × (r .next ≡ afterNumber (now (line .entry)) at) ⌝ }
+{
+    number(line, at, many_digits(line, at))
 }
 
 // A D after a text.
@@ -125,24 +270,6 @@ pub fn number_after(line: &[u8], at: usize, text: &[u8]) -> Found
         (r .next ≡ afterNumber (now (line .entry)) (after (now (line .entry)) at (now (text .entry)))) ⌝ }
 {
     number_at(line, skip(line, at, text))
-}
-
-// The D at a position.
-pub fn number_at(line: &[u8], at: usize) -> Found
-    ensures { λ r. ⌜ (r .value ≡ numberAt (now (line .entry)) at) × (r .next ≡ afterNumber (now (line .entry)) at) ⌝ }
-{
-    let digits = run(line, at, b'0', b'9');
-    let n = digits.len();
-    match number(digits) {
-        Number::Value(value) => Found {
-            value,
-            next: at + n,
-        },
-        Number::Missing => Found {
-            value: 0,
-            next: line.len() + 1,
-        },
-    }
 }
 
 // An S after a text.
@@ -203,55 +330,25 @@ fn negative_at(line: &[u8], at: usize) -> FoundSigned
     }
 }
 
-// The place of a word among two choices.
-fn pair_place(w: &[u8], first: &[u8], second: &[u8]) -> u64
-    ensures { λ r. ⌜ r ≡ placeOf (now (w .entry)) (now (first .entry) ∷ now (second .entry) ∷ []) ⌝ }
-{
-    if same(w, first) {
-        return 0;
-    }
-    if same(w, second) {
-        return 1;
-    }
-    2
-}
-
-fn kind_place(w: &[u8]) -> u64
-    ensures { λ r. ⌜ r ≡ placeOf (now (w .entry)) kinds ⌝ }
-{
-    if same(w, b"rate") {
-        return 0;
-    }
-    if same(w, b"float") {
-        return 1;
-    }
-    if same(w, b"fx") {
-        return 2;
-    }
-    if same(w, b"equity") {
-        return 3;
-    }
-    if same(w, b"metal") {
-        return 4;
-    }
-    if same(w, b"other") {
-        return 5;
-    }
-    6
-}
-
-// A word of n letters at a position, with its place among `count` choices.
-fn word_found(line: &[u8], at: usize, n: usize, place: u64, count: u64) -> Found
-    requires { ⌜ n ≤ length (now line) - at ⌝ }
+// The word at a position, with its place among the choices that upright bars separate.
+pub fn word_at(line: &[u8], at: usize, choices: &[u8]) -> Found
     ensures { λ r.
-        ⌜ (r .value ≡ place) ×
-        (r .next ≡ pick (ltb place count) (at + n) (past (now (line .entry)))) ⌝ }
+        ⌜ (r .value ≡ placeOf (lettersAt (now (line .entry)) at) (choicesOf (now (choices .entry)))) ×
+        (r .next ≡ afterWord (choicesOf (now (choices .entry))) (now (line .entry)) at) ⌝ }
 {
-    if place < count {
-        return Found {
-            value: place,
-            next: at + n,
-        };
+    let w = run(line, at, b'a', b'z');
+    let mut place: u64 = 0;
+    let mut i = 0;
+    while i <= choices.len() {
+        let choice = run(choices, i, 0, b'{');
+        if same(w, choice) {
+            return Found {
+                value: place,
+                next: at + w.len(),
+            };
+        }
+        i = i + choice.len() + 1;
+        place += 1;
     }
     Found {
         value: place,
@@ -259,24 +356,42 @@ fn word_found(line: &[u8], at: usize, n: usize, place: u64, count: u64) -> Found
     }
 }
 
-// One of two words after a text.
-pub fn pair_after(line: &[u8], at: usize, text: &[u8], first: &[u8], second: &[u8]) -> Found
+// One of the choices after a text.
+pub fn word_after(line: &[u8], at: usize, text: &[u8], choices: &[u8]) -> Found
     ensures { λ r.
-        ⌜ (r .value ≡ placeOf (lettersAt (now (line .entry)) (after (now (line .entry)) at (now (text .entry)))) (now (first .entry) ∷ now (second .entry) ∷ [])) ×
-        (r .next ≡ afterWord (now (first .entry) ∷ now (second .entry) ∷ []) (now (line .entry)) (after (now (line .entry)) at (now (text .entry)))) ⌝ }
+        ⌜ (r .value ≡ placeOf (lettersAt (now (line .entry)) (after (now (line .entry)) at (now (text .entry)))) (choicesOf (now (choices .entry)))) ×
+        (r .next ≡ afterWord (choicesOf (now (choices .entry))) (now (line .entry)) (after (now (line .entry)) at (now (text .entry)))) ⌝ }
 {
-    let from = skip(line, at, text);
-    let w = run(line, from, b'a', b'z');
-    word_found(line, from, w.len(), pair_place(w, first, second), 2)
+    word_at(line, skip(line, at, text), choices)
 }
 
-// One of the kinds of derivative after a text.
-pub fn kind_after(line: &[u8], at: usize, text: &[u8]) -> Found
-    ensures { λ r.
-        ⌜ (r .value ≡ placeOf (lettersAt (now (line .entry)) (after (now (line .entry)) at (now (text .entry)))) kinds) ×
-        (r .next ≡ afterWord kinds (now (line .entry)) (after (now (line .entry)) at (now (text .entry)))) ⌝ }
+// The score at a position, with its age, or the word `none`.
+pub fn score_at(line: &[u8], at: usize) -> FoundScore
+    ensures { λ r. ⌜ (r .score ≡ scoreAt (now (line .entry)) at) × (r .next ≡ afterScore (now (line .entry)) at) ⌝ }
 {
-    let from = skip(line, at, text);
-    let w = run(line, from, b'a', b'z');
-    word_found(line, from, w.len(), kind_place(w), 6)
+    let number = short_at(line, at);
+    if stands(line, number.next, b" ") {
+        let age = short_at(line, number.next + 1);
+        return FoundScore {
+            score: Score::Scored {
+                number: number.value,
+                age: age.value,
+            },
+            next: age.next,
+        };
+    }
+    let word = run(line, at, b'a', b'z');
+    if same(word, b"none") {
+        return FoundScore {
+            score: Score::Unscored,
+            next: at + word.len(),
+        };
+    }
+    FoundScore {
+        score: Score::Scored {
+            number: number.value,
+            age: 0,
+        },
+        next: line.len() + 1,
+    }
 }

@@ -9,7 +9,7 @@ use borrow.Author.Tests.{lt-ltb, le-ltb}
 use lib.Dec.{ltb}
 use lib.ListN.{length}
 use Rattle.exact.specs.Choice.{pick}
-use Rattle.line_forms.specs.Contents.{bytesOf, Written}
+use Rattle.line_forms.specs.Contents.{bytesOf, Writable}
 use Rattle.line_forms.specs.Readings.{contentOf}
 use Rattle.line_forms.specs.Claims.{NoBytes}
 use Rattle.line_forms.specs.declared.Content.{Content}
@@ -19,7 +19,7 @@ use Rattle.line_forms.proofs.Sizes.{content-size}
 
 -- a line that holds nothing is no form's bytes
 none-held : (s : List ℕ) → contentOf s ≡ NoForm → NoBytes s
-none-held s e c w h = subst (λ (d : Content). Written d) (sym (content-written s c w h) ∙ e) w
+none-held s e c w h = subst (λ (d : Content). Writable d) (sym (content-written s c w h) ∙ e) w
 
 -- `long` for a line over 240 bytes, else by what the line holds
 abbrev pub answerOf : {R : Type 0} → R → (Content → R) → List ℕ → R
@@ -38,11 +38,11 @@ module _ {R : Type 0} (long : R) (f : Content → R) (s : List ℕ) where
       ⊎-elim (λ e. ap f e) (λ k. absurd (n (contentOf s) (k .0) (k .1))) (content-right s)
 
   -- a form's bytes are no line over 240 bytes
-  pub answer-held : (c : Content) → Written c → s ≡ bytesOf c → answerOf long f s ≡ f c
+  pub answer-held : (c : Content) → Writable c → s ≡ bytesOf c → answerOf long f s ≡ f c
   answer-held c w e =
       answer-short (omega (arith, content-size c w, ap length e)) ∙ ap f (content-written s c w e)
 
-  pub answer-cases : (P : R → Type 0) → (240 < length s → P long) → (length s ≤ 240 → NoBytes s → P (f NoForm)) → ((c : Content) → Written c → s ≡ bytesOf c → P (f c)) → P (answerOf long f s)
+  pub answer-cases : (P : R → Type 0) → (240 < length s → P long) → (length s ≤ 240 → NoBytes s → P (f NoForm)) → ((c : Content) → Writable c → s ≡ bytesOf c → P (f c)) → P (answerOf long f s)
   answer-cases P a b h = elim (decLt 240 (length s)) [ yes l ↦ rw (answer-long l) (a l) | no l ↦ short (omega arith) ]
     where
       short : length s ≤ 240 → P (answerOf long f s)

@@ -1,7 +1,7 @@
 -- What the ranges say of the numbers of an accepted line or header, as facts.
 use Prim.Native.Nat.{ℕ, _≤_}
-use mathlib.Core.Path.{_≡_, refl}
-use mathlib.Core.Bool.{Bool, true, false, _&&_}
+use mathlib.Core.Path.{_≡_}
+use mathlib.Core.Bool.{true, _&&_}
 use mathlib.Core.List.{List}
 use mathlib.Core.Logic.{_⊎_}
 use Rattle.loan_charge.specs.declared.Score.{Score}
@@ -20,8 +20,8 @@ use Rattle.line_forms.specs.declared.Content.the-variants.{Header as hea
 use Rattle.line_forms.specs.declared.Line.the-variants.{Loan as LoanLine, Policy as PolicyLine, Derivative as DerivativeLine, Asset as AssetLine, Amount as AmountLine}
 use Rattle.line_forms.specs.declared.HeaderLine.the-variants.{Header as HeaderRead}
 use Rattle.line_forms.proofs.Bytes.{and-both, within-bounds}
-use Rattle.line_forms.proofs.LineLaws.{line-reading}
-use Rattle.line_forms.proofs.HeaderLaws.{header-reading}
+use Rattle.line_forms.proofs.LineLaws.{line-accepted}
+use Rattle.line_forms.proofs.HeaderLaws.{header-accepted}
 
 -- a ≤ n ≤ b
 pub record Between (a b n : ℕ) : Type 0 where
@@ -39,7 +39,7 @@ pub record HeaderBounds (h : Header) : Type 0 where
 pub header-bounds : (s : List ℕ) (h : Header) → headerOf s ≡ HeaderRead h → HeaderBounds h
 unfolding inRange headerInRange
 header-bounds s h e =
-    let k = header-reading s .accepted h .0 e in
+    let k = header-accepted s h .0 e in
     let a = and-both (within 0 1000000 (h .loans)) (within 0 10000000000000 (h .held)) (k .1) in
     record {
       loans = between 0 1000000 (h .loans) (a .0);
@@ -69,7 +69,7 @@ pub record LoanBounds (l : Loan) : Type 0 where
 pub loan-bounds : (s : List ℕ) (l : Loan) → lineOf s ≡ LoanLine l → LoanBounds l
 unfolding inRange loanInRange
 loan-bounds s l e =
-    let k = line-reading s .accepted (loan l) tt .0 e .1 in
+    let k = line-accepted s (loan l) tt .0 e .1 in
     let a1 = within 1 200000000 (l .balance) in
     let a2 = within 1 10000000000 (l .value) in
     let a3 = within 1 480 (l .amortization) in
@@ -97,7 +97,7 @@ pub record PolicyBounds (p : Policy) : Type 0 where
 pub policy-bounds : (s : List ℕ) (p : Policy) → lineOf s ≡ PolicyLine p → PolicyBounds p
 unfolding inRange policyInRange
 policy-bounds s p e =
-    let k = line-reading s .accepted (policy p) tt .0 e .1 in
+    let k = line-accepted s (policy p) tt .0 e .1 in
     let f = and-both (within 0 100000000 (p .premium) && within 1 480 (p .term)) (within 0 40 (p .completed)) k in
     let g = and-both (within 0 100000000 (p .premium)) (within 1 480 (p .term)) (f .0) in
     record {
@@ -132,7 +132,7 @@ pub record DerivativeBounds (d : Derivative) : Type 0 where
 pub derivative-bounds : (s : List ℕ) (d : Derivative) → lineOf s ≡ DerivativeLine d → DerivativeBounds d
 unfolding inRange derivativeInRange
 derivative-bounds s d e =
-    let k = line-reading s .accepted (derivative d) tt .0 e in
+    let k = line-accepted s (derivative d) tt .0 e in
     let a1 = moneyInRange (d .cost) in
     let a2 = within 0 100000000000 (d .notional) in
     let a3 = within 0 600 (d .months) in
@@ -156,7 +156,7 @@ pub record AssetBounds (a : Asset) : Type 0 where
 pub asset-bounds : (s : List ℕ) (a : Asset) → lineOf s ≡ AssetLine a → AssetBounds a
 unfolding inRange assetInRange
 asset-bounds s a e =
-    let k = line-reading s .accepted (asset a) tt .0 e .1 in
+    let k = line-accepted s (asset a) tt .0 e .1 in
     let f = and-both (within 0 100000000000 (a .amount)) (within 0 10000 (a .factor)) k in
     record {
       amount = between 0 100000000000 (a .amount) (f .0);
@@ -172,7 +172,7 @@ pub record AmountBounds (a : Amount) : Type 0 where
 pub amount-bounds : (s : List ℕ) (a : Amount) → lineOf s ≡ AmountLine a → AmountBounds a
 unfolding inRange amountInRange moneyInRange
 amount-bounds s a e =
-    let k = line-reading s .accepted (amount a) tt .0 e in
+    let k = line-accepted s (amount a) tt .0 e in
     let f = and-both (within 0 100000000000 (a .amount .plus)) (within 0 100000000000 (a .amount .minus)) (k .1) in
     record {
       plus = between 0 100000000000 (a .amount .plus) (f .0);

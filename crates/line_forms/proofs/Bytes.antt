@@ -1,36 +1,56 @@
 -- Laws of byte strings: equality, runs and the position after a text.
 use Prim.Native.Nat.{ℕ, suc, _+_, _-_, _≤_, _<_, zero-le, suc-le-suc}
+use native.Mathlib.Nat.{sub-self}
 use native.Mathlib.Numerals.{add-one}
 use native.Mathlib.Omega.{arith}
 use mathlib.Core.Path.{_≡_, refl, sym, _∙_, ap}
-use mathlib.Core.Bool.{Bool, true, false, _&&_}
+use mathlib.Core.Bool.{Bool, true, false, _&&_, _||_}
 use mathlib.Core.List.{List, [], _∷_, _++_}
-use borrow.Author.Tests.{eq-eqb, ne-eqb, eqb-true, leb-true, leb-false, le-leb, lt-leb}
+use borrow.Author.Tests.{eq-eqb, eqb-true, leb-true, leb-false, le-leb, lt-leb}
 use lib.Dec.{eqb, leb}
 use lib.ListN.{length, take, drop, getD, drop-of-length-le, length-drop, length-append, take-append-drop}
 use lib.Seq.{drop-cons, take-suc, getD-drop, drop-drop, drop-append-seam, take-append-seam}
 use mathlib.Core.Logic.{_⊎_, inl, inr}
 use Rattle.exact.specs.Choice.{pick}
-use Rattle.line_forms.specs.Bytes.{same, runOf, after, past, within, allWithin}
+use Rattle.line_forms.specs.Bytes.{same, runOf, standsAt, after, past, within, allWithin}
 
 pub false-and : (a : Bool) → (a && false) ≡ false
 false-and true = refl
 false-and false = refl
 
--- byte strings that agree at i are the same from i on where they are the same after it
-pub same-step : (a b : List ℕ) (i : ℕ) → i < length a → i < length b → getD a i 0 ≡ getD b i 0 → same (drop i a) (drop i b) ≡ same (drop (i + 1) a) (drop (i + 1) b)
-unfolding same
-same-step a b i ha hb e =
-    rw (add-one, drop-cons a i 0 ha, drop-cons b i 0 hb, eq-eqb (getD a i 0) (getD b i 0) e)
+pub and-both : (a b : Bool) → (a && b) ≡ true → (a ≡ true) × (b ≡ true)
+and-both true b h = (refl, h)
+and-both false b h = let z : _≡_ {A = ℕ} 0 1 = cc in absurd (omega (arith, z))
 
-pub same-differs : (a b : List ℕ) (i : ℕ) → i < length a → i < length b → (getD a i 0 ≡ getD b i 0 → ⊥) → same (drop i a) (drop i b) ≡ false
+pub or-false : (a b : Bool) → (a || b) ≡ false → (a ≡ false) × (b ≡ false)
+or-false true b h = let z : _≡_ {A = ℕ} 0 1 = cc in absurd (omega (arith, z))
+or-false false b h = (refl, h)
+
+-- byte strings compared to a place, and one place more
+pub same-step : (a b : List ℕ) (i : ℕ) → i < length a → i < length b → same (drop i a) (drop i b) ≡ (eqb (getD a i 0) (getD b i 0) && same (drop (i + 1) a) (drop (i + 1) b))
 unfolding same
-same-differs a b i ha hb e =
-    rw (drop-cons a i 0 ha, drop-cons b i 0 hb, ne-eqb (getD a i 0) (getD b i 0) e)
+same-step a b i ha hb = rw (add-one, drop-cons a i 0 ha, drop-cons b i 0 hb)
 
 pub same-end : (a b : List ℕ) (i : ℕ) → length a ≤ i → length b ≤ i → same (drop i a) (drop i b) ≡ true
 unfolding same
 same-end a b i ha hb = rw (drop-of-length-le a ha, drop-of-length-le b hb)
+
+pub and-assoc : (a b c : Bool) → (a && (b && c)) ≡ (a && b && c)
+and-assoc true b c = refl
+and-assoc false b c = refl
+
+pub and-true : (a : Bool) → (a && true) ≡ a
+and-true true = refl
+and-true false = refl
+
+-- bytes in a range, one place more
+pub all-step : (low high : ℕ) (t : List ℕ) (i : ℕ) → i < length t → allWithin low high (drop i t) ≡ (within low high (getD t i 0) && allWithin low high (drop (i + 1) t))
+unfolding allWithin
+all-step low high t i h = rw (add-one, drop-cons t i 0 h)
+
+pub all-end : (low high : ℕ) (t : List ℕ) (i : ℕ) → length t ≤ i → allWithin low high (drop i t) ≡ true
+unfolding allWithin
+all-end low high t i h = rw (drop-of-length-le t h)
 
 pub same-length : (a b : List ℕ) → (length a ≡ length b → ⊥) → same a b ≡ false
 unfolding same
@@ -89,17 +109,23 @@ pub after-other : (s : List ℕ) (at : ℕ) (t : List ℕ) → same (take (lengt
 unfolding after
 after-other s at t e = rw (e, false-and)
 
-pub and-both : (a b : Bool) → (a && b) ≡ true → (a ≡ true) × (b ≡ true)
-and-both true b h = (refl, h)
-and-both false b h = let z : _≡_ {A = ℕ} 0 1 = cc in absurd (omega (arith, z))
+-- the same by the test itself
+pub stands-fits : (s : List ℕ) (at : ℕ) (t : List ℕ) → standsAt s at t ≡ true → at + length t ≤ length s
+stands-fits s at t e =
+    leb-true (at + length t) (length s) (and-both (leb (at + length t) (length s)) (same (take (length t) (drop at s)) t) e .0)
+
+pub after-true : (s : List ℕ) (at : ℕ) (t : List ℕ) → standsAt s at t ≡ true → at + length t ≡ after s at t
+unfolding after
+after-true s at t e = rw e
+
+pub after-false : (s : List ℕ) (at : ℕ) (t : List ℕ) → standsAt s at t ≡ false → past s ≡ after s at t
+unfolding after
+after-false s at t e = rw e
 
 pub within-bounds : (low high n : ℕ) → within low high n ≡ true → (low ≤ n) × (n ≤ high)
 within-bounds low high n h =
     let k : (leb low n ≡ true) × (leb n high ≡ true) = and-both (leb low n) (leb n high) h in
     (leb-true low n (k .0), leb-true n high (k .1))
-
-pub bounds-within : (low high n : ℕ) → low ≤ n → n ≤ high → within low high n ≡ true
-bounds-within low high n a b = rw (le-leb low n a, le-leb n high b)
 
 pub run-length : (low high : ℕ) (s : List ℕ) → length (runOf low high s) ≤ length s
 unfolding runOf
@@ -131,6 +157,41 @@ run-exact low high [] r h e = e
 run-exact low high (b ∷ t) r h e =
     let k : (within low high b ≡ true) × (allWithin low high t ≡ true) = and-both (within low high b) (allWithin low high t) h in
     rw (k .0, run-exact low high t r (k .1) e)
+
+pub run-within : (low high : ℕ) (s : List ℕ) → allWithin low high (runOf low high s) ≡ true
+unfolding runOf allWithin
+run-within low high [] = refl
+run-within low high (b ∷ s) = go (within low high b) refl (run-within low high s)
+  where
+    go : (q : Bool) → within low high b ≡ q → allWithin low high (runOf low high s) ≡ true → allWithin low high (pick q (b ∷ runOf low high s) []) ≡ true
+    go true e h = rw (e, h)
+    go false e h = refl
+
+pub all-append : (low high : ℕ) (s t : List ℕ) → allWithin low high s ≡ true → allWithin low high t ≡ true → allWithin low high (s ++ t) ≡ true
+unfolding allWithin
+all-append low high [] t h k = k
+all-append low high (b ∷ s) t h k =
+    let e : (within low high b ≡ true) × (allWithin low high s ≡ true) = and-both (within low high b) (allWithin low high s) h in
+    rw (e .0) (all-append low high s t (e .1) k)
+
+-- A part of bytes in range is the run where the byte after it is in range no longer; and one byte more.
+pub part-run : (low high : ℕ) (s : List ℕ) (at end : ℕ) → at ≤ end → end < length s → allWithin low high (take (end - at) (drop at s)) ≡ true → within low high (getD s end 0) ≡ false → take (end - at) (drop at s) ≡ runOf low high (drop at s)
+part-run low high s at end l h a e =
+    let k : at + (end - at) ≡ end = omega arith in
+    let t = take (end - at) (drop at s) in
+    let r : runOf low high (drop (end - at) (drop at s)) ≡ [] =
+    rw (drop-drop (end - at) at s, k) (run-stops low high s end h e) in
+    sym (ap (runOf low high) (sym (take-append-drop (end - at) (drop at s))) ∙ run-exact low high t (drop (end - at) (drop at s)) a r)
+
+pub part-empty : (low high : ℕ) (s : List ℕ) (at : ℕ) → allWithin low high (take (at - at) (drop at s)) ≡ true
+unfolding allWithin
+part-empty low high s at = rw (sub-self at)
+
+pub part-longer : (low high : ℕ) (s : List ℕ) (at end next : ℕ) → next ≡ end + 1 → at ≤ end → end < length s → allWithin low high (take (end - at) (drop at s)) ≡ true → within low high (getD s end 0) ≡ true → allWithin low high (take (next - at) (drop at s)) ≡ true
+unfolding allWithin
+part-longer low high s at end next n l h a e =
+    rw (n, part-more s at end l h)
+    (all-append low high (take (end - at) (drop at s)) (getD s end 0 ∷ []) a (rw e))
 
 -- the part of a line after a text that stands in it
 pub rest-after : (s : List ℕ) (at : ℕ) (t x : List ℕ) → at ≤ length s → drop at s ≡ t ++ x → (at + length t ≤ length s) × (drop (at + length t) s ≡ x)

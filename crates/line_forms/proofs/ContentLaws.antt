@@ -1,23 +1,20 @@
 -- What a line holds and the line's bytes determine each other.
-use Prim.Native.Nat.{ℕ, zero, suc, _+_, _≤_, _<_}
+use Prim.Native.Nat.{ℕ, zero, suc, _+_, _<_}
 use native.Mathlib.Omega.{arith}
 use mathlib.Core.Path.{_≡_, refl, sym, _∙_, ap}
-use mathlib.Core.Bool.{Bool, true, false, not}
-use mathlib.Core.List.{List, [], _∷_, _++_}
+use mathlib.Core.Bool.{Bool, true, false}
+use mathlib.Core.List.{List, _∷_, _++_}
 use mathlib.Core.Logic.{_⊎_, inl, inr}
-use borrow.Author.Tests.{ne-eqb}
 use lib.Dec.{eqb}
 use lib.ListN.{length, drop}
-use Rattle.loan_charge.specs.declared.Score.{Score}
-use Rattle.loan_charge.specs.declared.Score.the-variants.{Scored, Unscored}
 use Rattle.exact.specs.Text.{text}
 use Rattle.exact.specs.Choice.{pick}
-use Rattle.line_forms.specs.Bytes.{past, after, runOf, same, allWithin}
-use Rattle.line_forms.specs.Numerals.{isNumeral, limit}
-use Rattle.line_forms.specs.Forms.{number, Form, field, end, Values, AllWritable, formText}
-use Rattle.line_forms.specs.Parsing.{afterNumber, valuesAt, afterForm, hasForm, lettersAt}
-use Rattle.line_forms.specs.Contents.{headerForm, headerValues, scoredLoan, unscoredLoan, loanForm, loanValues, policyForm, policyValues, classPlace, derivativeForm, derivativeValues, kindPlace, assetForm, assetValues, plainForm, signedForm, amountForm, amountValues, bytesOf, SignFits, Written}
-use Rattle.line_forms.specs.Readings.{headerWith, scoredLoanWith, unscoredLoanWith, policyWith, classAt, derivativeWith, kindAt, assetWith, unsigned, headerHeld, loanHeld, policyHeld, derivativeHeld, assetHeld, plainHeld, signedHeld, amountHeld, contentOf}
+use Rattle.line_forms.specs.Bytes.{past, standsAt, after, runOf, same, allWithin}
+use Rattle.line_forms.specs.Numerals.{limit}
+use Rattle.line_forms.specs.Forms.{Form, Values, AllWritable, formText}
+use Rattle.line_forms.specs.Parsing.{valuesAt, afterForm, hasForm, lettersAt, placeOf}
+use Rattle.line_forms.specs.Contents.{headerForm, headerValues, loanForm, loanValues, policyForm, policyValues, classPlace, derivativeForm, derivativeValues, kindPlace, assetForm, assetValues, plainForm, signedForm, amountForm, amountValues, bytesOf, SignFits, Writable}
+use Rattle.line_forms.specs.Readings.{headerWith, loanWith, policyWith, classAt, derivativeWith, kindAt, assetWith, unsigned, headerHeld, loanHeld, policyHeld, derivativeHeld, assetHeld, plainHeld, signedHeld, names, amountHeld, heldAs, contentOf}
 use Rattle.fixed_point.specs.declared.Signed.{Signed}
 use Rattle.line_forms.specs.declared.Header.{Header}
 use Rattle.line_forms.specs.declared.Loan.{Loan}
@@ -32,14 +29,14 @@ use Rattle.line_forms.specs.declared.Item.{Item}
 use Rattle.line_forms.specs.declared.Item.the-variants.{Claims, Lossc, Stated, Equity as EquityItem, Aoci, B, C}
 use Rattle.line_forms.specs.declared.Content.{Content}
 use Rattle.line_forms.specs.declared.Content.the-variants.{Header as header, Loan as loan, Policy as policy, Derivative as derivative, Asset as asset, Amount as amount, NoForm}
-use Rattle.line_forms.proofs.Bytes.{rest-after, text-stands, run-exact}
+use Rattle.line_forms.proofs.Bytes.{run-exact, Stands, text-cases, stands-fits, after-true}
 use Rattle.line_forms.proofs.FieldLaws.{among, spelled}
-use Rattle.line_forms.proofs.FormLaws.{stops, proper, form-of, form-has, form-past, form-step}
+use Rattle.line_forms.proofs.FormLaws.{stops, proper, form-of, form-has, firstText, later, proper-later, form-stops}
 
 -- From a line to what it holds: the line is the bytes of that.
 
 abbrev pub Right : List ℕ → Content → Type 0
-Right s c = (c ≡ NoForm) ⊎ (Written c × (s ≡ bytesOf c))
+Right s c = (c ≡ NoForm) ⊎ (Writable c × (s ≡ bytesOf c))
 
 pick-right : (s : List ℕ) (b : Bool) (x y : Content) → (b ≡ true → Right s x) → Right s y → Right s (pick b x y)
 pick-right s true x y f r = f refl
@@ -74,13 +71,9 @@ proper-header : proper headerForm ≡ true
 unfolding stops spelled among same allWithin
 proper-header = refl
 
-proper-scored : proper scoredLoan ≡ true
+proper-loan : proper loanForm ≡ true
 unfolding stops
-proper-scored = refl
-
-proper-unscored : proper unscoredLoan ≡ true
-unfolding stops
-proper-unscored = refl
+proper-loan = refl
 
 proper-policy : proper policyForm ≡ true
 unfolding stops spelled among same allWithin
@@ -117,11 +110,7 @@ header-right s =
 loan-right : (s : List ℕ) → Right s (loanHeld s)
 unfolding loanHeld bytesOf
 loan-right s =
-    held-right scoredLoan s (λ v. loan (scoredLoanWith v))
-    (pick (hasForm unscoredLoan s) (loan (unscoredLoanWith (valuesAt unscoredLoan s 0))) NoForm)
-    proper-scored
-    (λ v k. inr (k .1, k .0))
-    (held-right unscoredLoan s (λ v. loan (unscoredLoanWith v)) NoForm proper-unscored (λ v k. inr (k .1, k .0)) (inl refl))
+    held-right loanForm s (λ v. loan (loanWith v)) NoForm proper-loan (λ v k. inr (k .1, k .0)) (inl refl)
 
 policy-right : (s : List ℕ) → Right s (policyHeld s)
 unfolding policyHeld bytesOf
@@ -160,39 +149,58 @@ signed-right i t s f =
 either-right : (s : List ℕ) (b : Bool) (x y : Content) → Right s x → Right s y → Right s (pick b x y)
 either-right s b x y p q = pick-right s b x y (λ h. p) q
 
-amount-right : (name s : List ℕ) → Right s (amountHeld name s)
+amount-right : (name : ℕ) (s : List ℕ) → Right s (amountHeld name s)
 unfolding amountHeld bytesOf
 amount-right name s =
-    either-right s (same name (text "claims")) _ _ (plain-right Claims (text "(claims ") s (λ n k. inr ((k .1, refl), k .0)))
-    (either-right s (same name (text "lossc")) _ _ (plain-right Lossc (text "(lossc ") s (λ n k. inr ((k .1, refl), k .0)))
-    (either-right s (same name (text "stated")) _ _ (plain-right Stated (text "(stated ") s (λ n k. inr ((k .1, refl), k .0)))
-    (either-right s (same name (text "equity")) _ _ (signed-right EquityItem (text "(equity ") s (λ n k. inr ((k .1, tt), k .0)))
-    (either-right s (same name (text "aoci")) _ _ (signed-right Aoci (text "(aoci ") s (λ n k. inr ((k .1, tt), k .0)))
-    (either-right s (same name (text "b")) _ _ (plain-right B (text "(b ") s (λ n k. inr ((k .1, refl), k .0)))
-    (either-right s (same name (text "c")) _ _ (plain-right C (text "(c ") s (λ n k. inr ((k .1, refl), k .0)))
+    either-right s (eqb name 5) _ _ (plain-right Claims (text "(claims ") s (λ n k. inr ((k .1, refl), k .0)))
+    (either-right s (eqb name 6) _ _ (plain-right Lossc (text "(lossc ") s (λ n k. inr ((k .1, refl), k .0)))
+    (either-right s (eqb name 7) _ _ (plain-right Stated (text "(stated ") s (λ n k. inr ((k .1, refl), k .0)))
+    (either-right s (eqb name 8) _ _ (signed-right EquityItem (text "(equity ") s (λ n k. inr ((k .1, tt), k .0)))
+    (either-right s (eqb name 9) _ _ (signed-right Aoci (text "(aoci ") s (λ n k. inr ((k .1, tt), k .0)))
+    (either-right s (eqb name 10) _ _ (plain-right B (text "(b ") s (λ n k. inr ((k .1, refl), k .0)))
+    (either-right s (eqb name 11) _ _ (plain-right C (text "(c ") s (λ n k. inr ((k .1, refl), k .0)))
     (inl refl)))))))
+
+held-as-right : (name : ℕ) (s : List ℕ) → Right s (heldAs name s)
+held-as-right name s =
+    either-right s (eqb name 0) _ _ (loan-right s)
+    (either-right s (eqb name 1) _ _ (policy-right s)
+    (either-right s (eqb name 2) _ _ (derivative-right s)
+    (either-right s (eqb name 3) _ _ (asset-right s)
+    (either-right s (eqb name 4) _ _ (header-right s) (amount-right name s)))))
 
 pub content-right : (s : List ℕ) → Right s (contentOf s)
 unfolding contentOf
-content-right s =
-    either-right s (same (lettersAt s 1) (text "loan")) _ _ (loan-right s)
-    (either-right s (same (lettersAt s 1) (text "policy")) _ _ (policy-right s)
-    (either-right s (same (lettersAt s 1) (text "deriv")) _ _ (derivative-right s)
-    (either-right s (same (lettersAt s 1) (text "asset")) _ _ (asset-right s)
-    (either-right s (same (lettersAt s 1) (text "book")) _ _ (header-right s)
-    (amount-right (lettersAt s 1) s)))))
+content-right s = held-as-right (placeOf (lettersAt s 1) names) s
 
 -- From what is written to what the line holds.
 
--- the name that a form's bytes begin with decides the reader
-named : (s name : List ℕ) (c : Content) → lettersAt s 1 ≡ name → pick (same name (text "loan")) (loanHeld s) (pick (same name (text "policy")) (policyHeld s) (pick (same name (text "deriv")) (derivativeHeld s) (pick (same name (text "asset")) (assetHeld s) (pick (same name (text "book")) (headerHeld s) (amountHeld name s))))) ≡ c → contentOf s ≡ c
-unfolding contentOf
-named s name c e h = rw e h
+-- a name stands after the opening bracket and before a space, and its place decides the reader
+named : (s w y : List ℕ) (place : ℕ) (c : Content) → allWithin 97 122 w ≡ true → placeOf w names ≡ place → s ≡ 40 ∷ (w ++ (32 ∷ y)) → heldAs place s ≡ c → contentOf s ≡ c
+unfolding contentOf runOf
+named s w y place c l p e h =
+    let d : lettersAt s 1 ≡ w = rw e (run-exact 97 122 w (32 ∷ y) l refl) in
+    rw (d, p) h
 
--- a name stands after the opening bracket and before a space
-begins : (s w y : List ℕ) → allWithin 97 122 w ≡ true → s ≡ 40 ∷ (w ++ (32 ∷ y)) → lettersAt s 1 ≡ w
-unfolding runOf
-begins s w y h e = rw e (run-exact 97 122 w (32 ∷ y) h refl)
+-- a line that begins as a loan is read as one, and no other is
+pub loan-begins : (s : List ℕ) → standsAt s 0 (text "(loan (bal ") ≡ true → contentOf s ≡ loanHeld s
+unfolding placeOf same allWithin
+loan-begins s h =
+    let e : s ≡ text "(loan (bal " ++ drop 11 s = begun (text-cases s 0 (text "(loan (bal ")) in
+    named s (text "loan") (text "(bal " ++ drop 11 s) 0 (loanHeld s) refl refl e refl
+  where
+    begun : Stands s 0 (text "(loan (bal ") ⊎ (after s 0 (text "(loan (bal ") ≡ past s) → s ≡ text "(loan (bal " ++ drop 11 s
+    begun (inl k) = k .text
+    begun (inr k) =
+        absurd (omega (arith, after-true s 0 (text "(loan (bal ") h, stands-fits s 0 (text "(loan (bal ") h))
+
+-- nor is one whose text after n fields does not stand
+pub loan-stops : (n : ℕ) (s : List ℕ) (at : ℕ) → standsAt s at (firstText (later n loanForm)) ≡ false → eqb (afterForm (later n loanForm) s at) (length s) ≡ false
+loan-stops n s at h = form-stops (later n loanForm) s at (proper-later n loanForm proper-loan) h
+
+pub no-loan : (s : List ℕ) → standsAt s 0 (text "(loan (bal ") ≡ false → NoForm ≡ loanHeld s
+unfolding loanHeld
+no-loan s h = rw (form-stops loanForm s 0 proper-loan h)
 
 -- what is read of a form's bytes
 held : (f : Form) (s : List ℕ) (make : Values f → Content) (other : Content) (v : Values f) → proper f ≡ true → s ≡ formText f v → AllWritable f v → pick (hasForm f s) (make (valuesAt f s 0)) other ≡ make v
@@ -202,20 +210,26 @@ aged-back : (h : Header) (b : Bool) → b ≡ h .aged → header (record { loans
 aged-back h true e = ap (λ (b : Bool). header (record { loans = h .loans; unscored = h .unscored; aged = b; held = h .held })) e
 aged-back h false e = ap (λ (b : Bool). header (record { loans = h .loans; unscored = h .unscored; aged = b; held = h .held })) e
 
-header-written : (s : List ℕ) (h : Header) → Written (header h) → s ≡ bytesOf (header h) → contentOf s ≡ header h
-unfolding bytesOf headerHeld same allWithin
+header-written : (s : List ℕ) (h : Header) → Writable (header h) → s ≡ bytesOf (header h) → contentOf s ≡ header h
+unfolding bytesOf headerHeld placeOf same allWithin
 header-written s h w e =
-    named s (text "book") (header h) (begins s (text "book") _ refl e)
+    named s (text "book") _ 4 (header h) refl refl e
     (held headerForm s (λ v. header (headerWith v)) NoForm (headerValues h) proper-header e w ∙ aged-back h (h .aged) refl)
+
+loan-written : (s : List ℕ) (l : Loan) → Writable (loan l) → s ≡ bytesOf (loan l) → contentOf s ≡ loan l
+unfolding bytesOf loanHeld placeOf same allWithin
+loan-written s l w e =
+    named s (text "loan") _ 0 (loan l) refl refl e
+    (held loanForm s (λ v. loan (loanWith v)) NoForm (loanValues l) proper-loan e w)
 
 class-back : (p : Policy) (q : Class) → q ≡ p .class → policy (record { class = classAt (classPlace q); premium = p .premium; term = p .term; completed = p .completed }) ≡ policy p
 class-back p Home e = ap (λ (q : Class). policy (record { class = q; premium = p .premium; term = p .term; completed = p .completed })) e
 class-back p Multi e = ap (λ (q : Class). policy (record { class = q; premium = p .premium; term = p .term; completed = p .completed })) e
 
-policy-written : (s : List ℕ) (p : Policy) → Written (policy p) → s ≡ bytesOf (policy p) → contentOf s ≡ policy p
-unfolding bytesOf policyHeld same allWithin
+policy-written : (s : List ℕ) (p : Policy) → Writable (policy p) → s ≡ bytesOf (policy p) → contentOf s ≡ policy p
+unfolding bytesOf policyHeld placeOf same allWithin
 policy-written s p w e =
-    named s (text "policy") (policy p) (begins s (text "policy") _ refl e)
+    named s (text "policy") _ 1 (policy p) refl refl e
     (held policyForm s (λ v. policy (policyWith v)) NoForm (policyValues p) proper-policy e w ∙ class-back p (p .class) refl)
 
 kind-back : (q : Kind) → kindAt (kindPlace q) ≡ q
@@ -226,17 +240,17 @@ kind-back Equity = refl
 kind-back Metal = refl
 kind-back Other = refl
 
-derivative-written : (s : List ℕ) (d : Derivative) → Written (derivative d) → s ≡ bytesOf (derivative d) → contentOf s ≡ derivative d
-unfolding bytesOf derivativeHeld same allWithin
+derivative-written : (s : List ℕ) (d : Derivative) → Writable (derivative d) → s ≡ bytesOf (derivative d) → contentOf s ≡ derivative d
+unfolding bytesOf derivativeHeld placeOf same allWithin
 derivative-written s d w e =
-    named s (text "deriv") (derivative d) (begins s (text "deriv") _ refl e)
+    named s (text "deriv") _ 2 (derivative d) refl refl e
     (held derivativeForm s (λ v. derivative (derivativeWith v)) NoForm (derivativeValues d) proper-derivative e w ∙
     rw (kind-back (d .kind)))
 
-asset-written : (s : List ℕ) (a : Asset) → Written (asset a) → s ≡ bytesOf (asset a) → contentOf s ≡ asset a
-unfolding bytesOf assetHeld same allWithin
+asset-written : (s : List ℕ) (a : Asset) → Writable (asset a) → s ≡ bytesOf (asset a) → contentOf s ≡ asset a
+unfolding bytesOf assetHeld placeOf same allWithin
 asset-written s a w e =
-    named s (text "asset") (asset a) (begins s (text "asset") _ refl e)
+    named s (text "asset") _ 3 (asset a) refl refl e
     (held assetForm s (λ v. asset (assetWith v)) NoForm (assetValues a) proper-asset e w)
 
 plain-written : (i : Item) (t s : List ℕ) (n : ℕ) → n < limit → s ≡ formText (plainForm t) (n, tt) → plainHeld i t s ≡ amount (record { item = i; amount = unsigned n })
@@ -254,83 +268,27 @@ unsigned-back : (i : Item) (n : Signed) → n .minus ≡ 0 → amount (record { 
 unsigned-back i n e = ap (λ (m : ℕ). amount (record { item = i; amount = record { plus = n .plus; minus = m } })) (sym e)
 
 amount-written : (s : List ℕ) (i : Item) (n : Signed) → AllWritable (amountForm i) (amountValues i n) → SignFits i n → s ≡ formText (amountForm i) (amountValues i n) → contentOf s ≡ amount (record { item = i; amount = n })
-unfolding amountHeld same allWithin
+unfolding amountHeld placeOf same allWithin
 amount-written s Claims n w z e =
-    named s (text "claims") _ (begins s (text "claims") _ refl e) (plain-written Claims (text "(claims ") s (n .plus) (w .0) e ∙ unsigned-back Claims n z)
+    named s (text "claims") _ 5 _ refl refl e (plain-written Claims (text "(claims ") s (n .plus) (w .0) e ∙ unsigned-back Claims n z)
 amount-written s Lossc n w z e =
-    named s (text "lossc") _ (begins s (text "lossc") _ refl e) (plain-written Lossc (text "(lossc ") s (n .plus) (w .0) e ∙ unsigned-back Lossc n z)
+    named s (text "lossc") _ 6 _ refl refl e (plain-written Lossc (text "(lossc ") s (n .plus) (w .0) e ∙ unsigned-back Lossc n z)
 amount-written s Stated n w z e =
-    named s (text "stated") _ (begins s (text "stated") _ refl e) (plain-written Stated (text "(stated ") s (n .plus) (w .0) e ∙ unsigned-back Stated n z)
+    named s (text "stated") _ 7 _ refl refl e (plain-written Stated (text "(stated ") s (n .plus) (w .0) e ∙ unsigned-back Stated n z)
 amount-written s EquityItem n w z e =
-    named s (text "equity") _ (begins s (text "equity") _ refl e) (signed-written EquityItem (text "(equity ") s n w e)
+    named s (text "equity") _ 8 _ refl refl e (signed-written EquityItem (text "(equity ") s n w e)
 amount-written s Aoci n w z e =
-    named s (text "aoci") _ (begins s (text "aoci") _ refl e) (signed-written Aoci (text "(aoci ") s n w e)
+    named s (text "aoci") _ 9 _ refl refl e (signed-written Aoci (text "(aoci ") s n w e)
 amount-written s B n w z e =
-    named s (text "b") _ (begins s (text "b") _ refl e) (plain-written B (text "(b ") s (n .plus) (w .0) e ∙ unsigned-back B n z)
+    named s (text "b") _ 10 _ refl refl e (plain-written B (text "(b ") s (n .plus) (w .0) e ∙ unsigned-back B n z)
 amount-written s C n w z e =
-    named s (text "c") _ (begins s (text "c") _ refl e) (plain-written C (text "(c ") s (n .plus) (w .0) e ∙ unsigned-back C n z)
-
--- Loans. A line with (score none) has not the other form: where a number would begin, none stands.
-abbrev withScore : Loan → Score → Loan
-withScore l q = record { balance = l .balance; value = l .value; amortization = l .amortization; term = l .term; score = q; supplement = l .supplement }
-
-no-digits : (s : List ℕ) (at : ℕ) (r : List ℕ) → drop at s ≡ r → runOf 48 57 r ≡ [] → afterNumber s at ≡ past s
-unfolding afterNumber isNumeral allWithin
-no-digits s at r e d = rw (e, d)
-
--- the forms of an unscored loan from its second field on, and of a scored one from its score on
-abbrev unscored5 : Form
-unscored5 = field (text ") (score none) (sup ") number (end (text "))"))
-
-abbrev unscored4 : Form
-unscored4 = field (text ") (term ") number unscored5
-
-abbrev unscored3 : Form
-unscored3 = field (text ") (amort ") number unscored4
-
-abbrev unscored2 : Form
-unscored2 = field (text ") (val ") number unscored3
-
-abbrev scored6 : Form
-scored6 = field (text " ") number (field (text ") (sup ") number (end (text "))")))
-
-no-score : (s : List ℕ) (at n : ℕ) → at ≤ length s → drop at s ≡ formText unscored5 (n, tt) → length s < afterForm scored6 s (afterNumber s (after s at (text ") (score ")))
-unfolding runOf stops
-no-score s at n l e =
-    let x : List ℕ = text "none) (sup " ++ formText (field [] number (end (text "))"))) (n, tt) in
-    let a : after s at (text ") (score ") ≡ at + 9 = text-stands s at (text ") (score ") x l e in
-    let b : drop (at + 9) s ≡ x = rest-after s at (text ") (score ") x l e .1 in
-    rw (a, no-digits s (at + 9) x b refl) (form-past scored6 s (past s) refl (omega arith))
-
-unscored-only : (s : List ℕ) (l : Loan) → AllWritable unscoredLoan (loanValues Unscored l) → s ≡ formText unscoredLoan (loanValues Unscored l) → hasForm scoredLoan s ≡ false
-unfolding stops
-unscored-only s l w e =
-    let v = loanValues Unscored l in
-    let a = form-step (text "(loan (bal ") number unscored2 s 0 v refl (omega arith) e w in
-    let b = form-step (text ") (val ") number unscored3 s (a .0) (v .1) refl (a .2) (a .3) (w .1) in
-    let c = form-step (text ") (amort ") number unscored4 s (b .0) (v .1 .1) refl (b .2) (b .3) (w .1 .1) in
-    let d = form-step (text ") (term ") number unscored5 s (c .0) (v .1 .1 .1) refl (c .2) (c .3) (w .1 .1 .1) in
-    rw (a .1, b .1, c .1, d .1)
-    (ne-eqb (afterForm scored6 s (afterNumber s (after s (d .0) (text ") (score ")))) (length s)
-    (λ h. omega (arith, no-score s (d .0) (l .supplement) (d .2) (d .3))))
-
-loan-written : (s : List ℕ) (q : Score) (l : Loan) → l .score ≡ q → AllWritable (loanForm q) (loanValues q l) → s ≡ formText (loanForm q) (loanValues q l) → contentOf s ≡ loan l
-unfolding loanHeld same allWithin
-loan-written s (Scored n age) l z w e =
-    named s (text "loan") (loan l) (begins s (text "loan") _ refl e)
-    (held scoredLoan s (λ v. loan (scoredLoanWith v)) (pick (hasForm unscoredLoan s) (loan (unscoredLoanWith (valuesAt unscoredLoan s 0))) NoForm) (loanValues (Scored n age) l) proper-scored e w ∙
-    ap (λ (x : Score). loan (withScore l x)) (sym z))
-loan-written s Unscored l z w e =
-    named s (text "loan") (loan l) (begins s (text "loan") _ refl e)
-    (rw (unscored-only s l w e)
-    (held unscoredLoan s (λ v. loan (unscoredLoanWith v)) NoForm (loanValues Unscored l) proper-unscored e w ∙
-    ap (λ (x : Score). loan (withScore l x)) (sym z)))
+    named s (text "c") _ 11 _ refl refl e (plain-written C (text "(c ") s (n .plus) (w .0) e ∙ unsigned-back C n z)
 
 -- The bytes of what a line can hold are read as that.
-pub content-written : (s : List ℕ) (c : Content) → Written c → s ≡ bytesOf c → contentOf s ≡ c
+pub content-written : (s : List ℕ) (c : Content) → Writable c → s ≡ bytesOf c → contentOf s ≡ c
 unfolding bytesOf
 content-written s (header h) w e = header-written s h w e
-content-written s (loan l) w e = loan-written s (l .score) l refl w e
+content-written s (loan l) w e = loan-written s l w e
 content-written s (policy p) w e = policy-written s p w e
 content-written s (derivative d) w e = derivative-written s d w e
 content-written s (asset a) w e = asset-written s a w e

@@ -1,147 +1,21 @@
 -- Laws of a field: what is written as the field's value is read as it, and only that.
 use Prim.Native.Nat.{ℕ, zero, suc, _+_, _≤_, _<_}
-use native.Mathlib.Nat.{add-zero}
-use native.Mathlib.Numerals.{add-one}
 use native.Mathlib.Omega.{arith}
-use mathlib.Core.Path.{_≡_, refl, sym, _∙_, ap}
+use mathlib.Core.Path.{_≡_, refl, sym, ap}
 use mathlib.Core.Bool.{Bool, true, false, _&&_, _||_, not}
 use mathlib.Core.List.{List, [], _∷_, _++_}
 use mathlib.Core.Logic.{_⊎_, inl, inr, ⊎-elim}
-use borrow.Author.Tests.{eq-eqb, ne-eqb, eqb-true, eqb-false, ltb-true, lt-ltb, not-true}
-use lib.Dec.{eqb, ltb}
-use lib.ListN.{length, drop, getD, List·getD-eq-default}
-use lib.Seq.{getD-drop, drop-drop, drop-cons}
+use borrow.Author.Tests.{ltb-true, lt-ltb, not-true}
+use lib.Dec.{ltb}
+use lib.ListN.{length, drop, getD}
+use lib.Seq.{drop-drop}
 use Rattle.exact.specs.Choice.{pick}
-use Rattle.line_forms.specs.Bytes.{past, runOf, allWithin, same}
-use Rattle.line_forms.specs.Numerals.{isNumeral, decimal, limit, signedText}
-use Rattle.line_forms.specs.Forms.{Field, number, signed, word, Value, Writable, fieldText}
-use Rattle.line_forms.specs.Parsing.{digitsAt, lettersAt, numberAt, afterNumber, minusAt, afterNegative, signedAt, afterSigned, placeOf, afterWord, fieldAt, afterField}
-use Rattle.fixed_point.specs.declared.Signed.{Signed}
-use Rattle.line_forms.proofs.Bytes.{and-both, same-eq, same-refl, run-split, run-exact, run-end, rest-after}
-use Rattle.line_forms.proofs.Positions.{minus-inside}
-use Rattle.line_forms.proofs.Numerals.{decimal-numeral, decimal-value, decimal-digits, decimal-first, numeral-decimal}
-
--- neither a digit nor a letter comes first
-pub record Ends (r : List ℕ) : Type 0 where
-  pub digits : runOf 48 57 r ≡ []
-  pub letters : runOf 97 122 r ≡ []
-
--- Numbers.
-
-number-written : (s : List ℕ) (at n : ℕ) (r : List ℕ) → drop at s ≡ decimal n ++ r → n < limit → Ends r → (numberAt s at ≡ n) × (afterNumber s at ≡ at + length (decimal n))
-unfolding numberAt afterNumber
-number-written s at n r e h q =
-    let d : digitsAt s at ≡ decimal n = rw e (run-exact 48 57 (decimal n) r (decimal-digits n h) (q .digits)) in
-    (rw (d, decimal-numeral n h, decimal-value n h), rw (d, decimal-numeral n h))
-
--- what reading a D shows of the line
-pub record NumberRead (s : List ℕ) (at : ℕ) : Type 0 where
-  pub fits : afterNumber s at ≤ length s
-  pub text : drop at s ≡ decimal (numberAt s at) ++ drop (afterNumber s at) s
-  pub small : numberAt s at < limit
-
-number-read : (s : List ℕ) (at : ℕ) → at ≤ length s → NumberRead s at ⊎ ((afterNumber s at ≡ past s) × (numberAt s at ≡ 0))
-unfolding numberAt afterNumber
-number-read s at h = go (isNumeral (digitsAt s at)) refl
-  where
-    go : (b : Bool) → isNumeral (digitsAt s at) ≡ b → NumberRead s at ⊎ ((afterNumber s at ≡ past s) × (numberAt s at ≡ 0))
-    go true e =
-        let k = numeral-decimal (digitsAt s at) e in
-        let a : drop at s ≡ digitsAt s at ++ drop (at + length (digitsAt s at)) s =
-        rw (drop-drop (length (digitsAt s at)) at s) at (run-split 48 57 (drop at s)) in
-        inl (record {
-          fits = rw e (rest-after s at (digitsAt s at) (drop (at + length (digitsAt s at)) s) h a .0);
-          text = rw (e, ← k .0) a;
-          small = rw e (k .1);
-        })
-    go false e = inr (rw e, rw e)
-
-number-past : (s : List ℕ) (at : ℕ) → length s < at → afterNumber s at ≡ past s
-unfolding afterNumber isNumeral allWithin
-number-past s at h = let k : length s ≤ at = omega arith in rw (run-end 48 57 s at k)
-
--- Numbers with a sign.
-
--- the byte at a position is the first of the rest
-at-first : (s : List ℕ) (at : ℕ) (t : List ℕ) → drop at s ≡ t → getD s at 0 ≡ getD t 0 0
-at-first s at t e = rw (getD-drop at s 0 0, add-zero at) at (ap (λ (l : List ℕ). getD l 0 0) e)
-
-no-minus : (s : List ℕ) (at n : ℕ) (r : List ℕ) → drop at s ≡ decimal n ++ r → n < limit → minusAt s at ≡ false
-no-minus s at n r e h =
-    ne-eqb (getD s at 0) 45 (λ q. omega (arith, decimal-first n r h, at-first s at (decimal n ++ r) e))
-
-next-rest : (s : List ℕ) (at b : ℕ) (r : List ℕ) → at ≤ length s → drop at s ≡ b ∷ r → drop (at + 1) s ≡ r
-next-rest s at b r h e = rest-after s at (b ∷ []) r h e .1
-
-of : ℕ → ℕ → Signed
-of p m = record { plus = p; minus = m }
-
-signed-written : (s : List ℕ) (at : ℕ) (n : Signed) (r : List ℕ) → at ≤ length s → drop at s ≡ signedText n ++ r → Writable signed n → Ends r → (signedAt s at ≡ n) × (afterSigned s at ≡ at + length (signedText n))
-unfolding signedAt afterSigned afterNegative signedText of
-signed-written s at n r l e w q = go (eqb (n .minus) 0) refl
-  where
-    go : (b : Bool) → eqb (n .minus) 0 ≡ b → (signedAt s at ≡ n) × (afterSigned s at ≡ at + length (signedText n))
-    go true z =
-        let m : n .minus ≡ 0 = eqb-true (n .minus) 0 z in
-        let f : drop at s ≡ decimal (n .plus) ++ r = e ∙ rw z in
-        let k = number-written s at (n .plus) r f (w .0) q in
-        let d : minusAt s at ≡ false = no-minus s at (n .plus) r f (w .0) in
-        (rw (d, k .0) (ap (λ (x : ℕ). of (n .plus) x) (sym m)), rw (d, z) (k .1))
-    go false z =
-        let m : n .minus ≡ 0 → ⊥ = eqb-false (n .minus) 0 z in
-        let p : n .plus ≡ 0 = ⊎-elim (λ a. a) (λ b. absurd (m b)) (w .2) in
-        let f : drop at s ≡ 45 ∷ (decimal (n .minus) ++ r) = e ∙ rw z in
-        let d : minusAt s at ≡ true =
-        eq-eqb (getD s at 0) 45 (at-first s at (45 ∷ (decimal (n .minus) ++ r)) f) in
-        let k = number-written s (at + 1) (n .minus) r (next-rest s at 45 (decimal (n .minus) ++ r) l f) (w .1) q in
-        (rw (d, k .0) (ap (λ (x : ℕ). of x (n .minus)) (sym p)), rw (d, z, k .0, z) (k .1 ∙ omega arith))
-
-pub record SignedRead (s : List ℕ) (at : ℕ) : Type 0 where
-  pub fits : afterSigned s at ≤ length s
-  pub text : drop at s ≡ signedText (signedAt s at) ++ drop (afterSigned s at) s
-  pub small : Writable signed (signedAt s at)
-
--- the rest begins with the byte at the position
-first-rest : (s : List ℕ) (at : ℕ) → at < length s → drop at s ≡ getD s at 0 ∷ drop (at + 1) s
-first-rest s at h = rw (add-one at) (drop-cons s at 0 h)
-
-signed-read : (s : List ℕ) (at : ℕ) → at ≤ length s → SignedRead s at ⊎ (afterSigned s at ≡ past s)
-unfolding signedAt afterSigned afterNegative signedText
-signed-read s at h = go (minusAt s at) refl
-  where
-    plus : minusAt s at ≡ false → NumberRead s at ⊎ ((afterNumber s at ≡ past s) × (numberAt s at ≡ 0)) → SignedRead s at ⊎ (afterSigned s at ≡ past s)
-    plus d (inl k) = inl (record {
-      fits = rw d (k .fits);
-      text = rw d (k .text);
-      small = rw d (k .small, omega arith, inr refl);
-    })
-    plus d (inr k) = inr (rw d (k .0))
-
-    nonzero : minusAt s at ≡ true → NumberRead s (at + 1) → (b : Bool) → eqb (numberAt s (at + 1)) 0 ≡ b → SignedRead s at ⊎ (afterSigned s at ≡ past s)
-    nonzero d k true z = inr (rw (d, z))
-    nonzero d k false z =
-        let e : drop at s ≡ 45 ∷ drop (at + 1) s =
-        first-rest s at (minus-inside s at d) ∙ rw (eqb-true (getD s at 0) 45 d) in
-        inl (record {
-          fits = rw (d, z) (k .fits);
-          text = rw (d, z) (e ∙ ap (λ (l : List ℕ). 45 ∷ l) (k .text));
-          small = rw d (omega arith, k .small, inl refl);
-        })
-
-    minus : minusAt s at ≡ true → NumberRead s (at + 1) ⊎ ((afterNumber s (at + 1) ≡ past s) × (numberAt s (at + 1) ≡ 0)) → SignedRead s at ⊎ (afterSigned s at ≡ past s)
-    minus d (inl k) = nonzero d k (eqb (numberAt s (at + 1)) 0) refl
-    minus d (inr k) = inr (rw (d, k .1))
-
-    go : (b : Bool) → minusAt s at ≡ b → SignedRead s at ⊎ (afterSigned s at ≡ past s)
-    go true d = minus d (number-read s (at + 1) (omega (arith, minus-inside s at d)))
-    go false d = plus d (number-read s at h)
-
-signed-past : (s : List ℕ) (at : ℕ) → length s < at → afterSigned s at ≡ past s
-unfolding afterSigned
-signed-past s at h =
-    let k : length s ≤ at = omega arith in
-    let d : minusAt s at ≡ false = ne-eqb (getD s at 0) 45 (λ e. omega (arith, List·getD-eq-default s 0 k)) in
-    rw d (number-past s at h)
+use Rattle.line_forms.specs.Bytes.{past, allWithin, same}
+use Rattle.line_forms.specs.Forms.{Field, number, signed, word, score, Value, FieldWritable, fieldText}
+use Rattle.line_forms.specs.Parsing.{lettersAt, placeOf, afterWord, fieldAt, afterField}
+use Rattle.line_forms.proofs.Bytes.{and-both, or-false, same-eq, same-refl, run-split, run-exact, run-end, rest-after}
+use Rattle.line_forms.proofs.NumberLaws.{Ends, number-written, number-read, number-past, signed-written, signed-read, signed-past}
+use Rattle.line_forms.proofs.ScoreLaws.{score-written, score-read, score-past}
 
 -- Words.
 
@@ -177,10 +51,6 @@ word-letters : (choices : List (List ℕ)) (i : ℕ) → spelled choices ≡ tru
 word-letters [] i h l = absurd (omega arith)
 word-letters (w ∷ choices) zero h l = let k = spells w choices h in (k .some, k .letters)
 word-letters (w ∷ choices) (suc i) h l = word-letters choices i (spells w choices h .others) (omega arith)
-
-or-false : (a b : Bool) → (a || b) ≡ false → (a ≡ false) × (b ≡ false)
-or-false true b h = let z : _≡_ {A = ℕ} 0 1 = cc in absurd (omega (arith, z))
-or-false false b h = (refl, h)
 
 not-among : (w : List ℕ) (choices : List (List ℕ)) (i : ℕ) → among w choices ≡ false → i < length choices → same (getD choices i []) w ≡ false
 unfolding among
@@ -257,24 +127,28 @@ abbrev pub properField : Field → Bool
 properField number = true
 properField signed = true
 properField (word choices) = spelled choices
+properField score = true
 
-pub field-written : (k : Field) (s : List ℕ) (at : ℕ) (v : Value k) (r : List ℕ) → at ≤ length s → drop at s ≡ fieldText k v ++ r → Writable k v → properField k ≡ true → Ends r → (fieldAt k s at ≡ v) × (afterField k s at ≡ at + length (fieldText k v))
+pub field-written : (k : Field) (s : List ℕ) (at : ℕ) (v : Value k) (r : List ℕ) → at ≤ length s → drop at s ≡ fieldText k v ++ r → FieldWritable k v → properField k ≡ true → Ends r → (fieldAt k s at ≡ v) × (afterField k s at ≡ at + length (fieldText k v))
 field-written number s at v r l e w p q = number-written s at v r e w q
 field-written signed s at v r l e w p q = signed-written s at v r l e w q
 field-written (word choices) s at v r l e w p q = word-written choices s at v r e p w q
+field-written score s at v r l e w p q = score-written s at v r l e w q
 
 pub record FieldRead (k : Field) (s : List ℕ) (at : ℕ) : Type 0 where
   pub fits : afterField k s at ≤ length s
   pub text : drop at s ≡ fieldText k (fieldAt k s at) ++ drop (afterField k s at) s
-  pub small : Writable k (fieldAt k s at)
+  pub small : FieldWritable k (fieldAt k s at)
 
 pub field-read : (k : Field) (s : List ℕ) (at : ℕ) → at ≤ length s → FieldRead k s at ⊎ (afterField k s at ≡ past s)
 field-read number s at h = ⊎-elim (λ k. inl (record { fits = k .fits; text = k .text; small = k .small })) (λ k. inr (k .0)) (number-read s at h)
 field-read signed s at h = ⊎-elim (λ k. inl (record { fits = k .fits; text = k .text; small = k .small })) (λ k. inr k) (signed-read s at h)
 field-read (word choices) s at h = ⊎-elim (λ k. inl (record { fits = k .fits; text = k .text; small = k .small })) (λ k. inr k) (word-read choices s at h)
+field-read score s at h = ⊎-elim (λ k. inl (record { fits = k .fits; text = k .text; small = k .small })) (λ k. inr k) (score-read s at h)
 
 -- past the end no field stands
 pub field-past : (k : Field) (s : List ℕ) (at : ℕ) → properField k ≡ true → length s < at → afterField k s at ≡ past s
 field-past number s at p h = number-past s at h
 field-past signed s at p h = signed-past s at h
 field-past (word choices) s at p h = word-past choices s at p h
+field-past score s at p h = score-past s at h

@@ -1,18 +1,20 @@
 -- Laws of a form: a line has a form where, and only where, it is the bytes of values that the form can write, and reading gives them back.
-use Prim.Native.Nat.{ℕ, _+_, _≤_, _<_}
+use Prim.Native.Nat.{ℕ, zero, suc, _+_, _≤_, _<_}
 use native.Mathlib.Omega.{arith}
 use mathlib.Core.Path.{_≡_, refl, sym, _∙_, ap}
 use mathlib.Core.Bool.{Bool, true, false, _&&_, not}
 use mathlib.Core.List.{List, [], _∷_, _++_, append-nil}
 use mathlib.Core.Logic.{_⊎_, inl, inr}
-use borrow.Author.Tests.{not-true, eq-eqb, eqb-true}
+use borrow.Author.Tests.{not-true, eq-eqb, ne-eqb, eqb-true}
+use lib.Dec.{eqb}
 use lib.ListN.{length, drop, length-drop}
 use lib.Seq.{drop-length}
-use Rattle.line_forms.specs.Bytes.{past, after, runOf, within}
-use Rattle.line_forms.specs.Forms.{Field, Form, field, end, Values, Writable, AllWritable, fieldText, formText}
+use Rattle.line_forms.specs.Bytes.{past, standsAt, after, runOf, within}
+use Rattle.line_forms.specs.Forms.{Field, Form, field, end, Values, FieldWritable, AllWritable, fieldText, formText}
 use Rattle.line_forms.specs.Parsing.{fieldAt, afterField, valuesAt, afterForm, hasForm}
-use Rattle.line_forms.proofs.Bytes.{and-both, rest-after, text-stands, Stands, text-cases, after-past}
-use Rattle.line_forms.proofs.FieldLaws.{Ends, properField, field-written, FieldRead, field-read, field-past}
+use Rattle.line_forms.proofs.Bytes.{and-both, rest-after, text-stands, Stands, text-cases, after-past, after-false}
+use Rattle.line_forms.proofs.NumberLaws.{Ends}
+use Rattle.line_forms.proofs.FieldLaws.{properField, field-written, FieldRead, field-read, field-past}
 
 -- neither a digit nor a letter comes first
 unfoldable pub stops : List ℕ → Bool
@@ -89,7 +91,7 @@ form-read (field t k f) s at p l e =
     Goal : ℕ → Type 0
     Goal from =
         (drop at s ≡ t ++ (fieldText k (fieldAt k s from) ++ formText f (valuesAt f s (afterField k s from)))) ×
-        (Writable k (fieldAt k s from) × AllWritable f (valuesAt f s (afterField k s from)))
+        (FieldWritable k (fieldAt k s from) × AllWritable f (valuesAt f s (afterField k s from)))
 
     next : Proper k f → ((at : ℕ) → at ≤ length s → afterForm f s at ≡ length s → Read at) → Stands s at t → afterForm f s (afterField k s (at + length t)) ≡ length s → FieldRead k s (at + length t) ⊎ (afterField k s (at + length t) ≡ past s) → Goal (at + length t)
     next q ih a x (inl b) =
@@ -121,3 +123,22 @@ pub form-has : (f : Form) (s : List ℕ) (v : Values f) → proper f ≡ true �
 form-has f s v p e w =
     let k = form-written f s 0 v p (omega arith) e w in
     (eq-eqb (afterForm f s 0) (length s) (k .0), k .1)
+
+-- A line has not the form where one of its texts, from a position on, does not stand.
+pub form-stops : (f : Form) (s : List ℕ) (at : ℕ) → proper f ≡ true → standsAt s at (firstText f) ≡ false → eqb (afterForm f s at) (length s) ≡ false
+form-stops (field t k f) s at p h =
+    let q = is-proper t k f p in
+    rw (← after-false s at t h, field-past k s (past s) (q .this) (omega arith))
+    (ne-eqb (afterForm f s (past s)) (length s) (λ e. omega (arith, form-past f s (past s) (q .rest) (omega arith))))
+form-stops (end t) s at p h = rw (← after-false s at t h) (ne-eqb (past s) (length s) (λ e. omega arith))
+
+-- a form without its first n fields
+abbrev pub later : ℕ → Form → Form
+later zero f = f
+later (suc n) (field t k f) = later n f
+later (suc n) (end t) = end t
+
+pub proper-later : (n : ℕ) (f : Form) → proper f ≡ true → proper (later n f) ≡ true
+proper-later zero f p = p
+proper-later (suc n) (field t k f) p = proper-later n f (is-proper t k f p .rest)
+proper-later (suc n) (end t) p = refl

@@ -1,18 +1,18 @@
 -- Header reading answers by the rules of 01, when and only when each holds; and a header in range is read from its bytes.
 use Prim.Native.Nat.{ℕ, _≤_, _<_}
 use native.Mathlib.Omega.{arith}
-use mathlib.Core.Path.{sym, _≡_, refl, _∙_, ap, subst}
+use mathlib.Core.Path.{_≡_, refl, _∙_, ap, subst}
 use mathlib.Core.Bool.{Bool, true, false}
 use mathlib.Core.List.{List}
 use borrow.Author.Tests.{lt-ltb, le-ltb, ltb-true, ltb-false}
 use lib.Dec.{ltb}
-use mathlib.Core.Logic.{_⊎_, inl, inr}
+use mathlib.Core.Logic.{_↔_, _⊎_, inl, inr}
 use lib.ListN.{length}
 use Rattle.exact.specs.Choice.{pick}
 use Rattle.line_forms.specs.Bytes.{within}
-use Rattle.line_forms.specs.Contents.{bytesOf, Written, inRange, headerInRange}
+use Rattle.line_forms.specs.Contents.{bytesOf, Writable, inRange, headerInRange}
 use Rattle.line_forms.specs.Readings.{headerOf, headerFor}
-use Rattle.line_forms.specs.Claims.{AfterHeader, headerRefusalOf, NoBytes, HeaderReading, BytesRead}
+use Rattle.line_forms.specs.Claims.{AfterHeader, headerRefusal, headerContent, NoBytes, HeaderReading, BytesRead}
 use Rattle.line_forms.specs.declared.Header.{Header}
 use Rattle.line_forms.specs.declared.Content.{Content}
 use Rattle.line_forms.specs.declared.Content.the-variants.{Header as header, Loan as loan, Policy as policy, Derivative as derivative, Asset as asset, Amount as amount, NoForm}
@@ -26,19 +26,19 @@ use Rattle.line_forms.proofs.Sizes.{content-size}
 -- The rules of header reading, one for each answer.
 data Answer (s : List ℕ) : HeaderLine → Type 0 where
   long : 240 < length s → Answer s (HeaderRefusal 1)
-  none : length s ≤ 240 → NoBytes s → Answer s (HeaderRefusal 2)
-  other : (c : Content) → AfterHeader c → Written c → s ≡ bytesOf c → Answer s (HeaderRefusal 7)
-  out : (h : Header) → Written (header h) → inRange (header h) ≡ false → s ≡ bytesOf (header h) → Answer s (HeaderRefusal 3)
-  over : (h : Header) → Written (header h) → inRange (header h) ≡ true → h .loans < h .unscored → s ≡ bytesOf (header h) → Answer s (HeaderRefusal 4)
-  held : (h : Header) → Written (header h) → inRange (header h) ≡ true → h .unscored ≤ h .loans → s ≡ bytesOf (header h) → Answer s (HeaderRead h)
+  formless : length s ≤ 240 → NoBytes s → Answer s (HeaderRefusal 2)
+  other : (c : Content) → AfterHeader c → Writable c → s ≡ bytesOf c → Answer s (HeaderRefusal 7)
+  out : (h : Header) → Writable (header h) → inRange (header h) ≡ false → s ≡ bytesOf (header h) → Answer s (HeaderRefusal 3)
+  over : (h : Header) → Writable (header h) → inRange (header h) ≡ true → h .loans < h .unscored → s ≡ bytesOf (header h) → Answer s (HeaderRefusal 4)
+  held : (h : Header) → Writable (header h) → inRange (header h) ≡ true → h .unscored ≤ h .loans → s ≡ bytesOf (header h) → Answer s (HeaderRead h)
 
-judged : (s : List ℕ) (h : Header) → Written (header h) → s ≡ bytesOf (header h) → (b : Bool) → inRange (header h) ≡ b → (d : Bool) → ltb (h .loans) (h .unscored) ≡ d → Answer s (pick b (pick d (HeaderRefusal 4) (HeaderRead h)) (HeaderRefusal 3))
+judged : (s : List ℕ) (h : Header) → Writable (header h) → s ≡ bytesOf (header h) → (b : Bool) → inRange (header h) ≡ b → (d : Bool) → ltb (h .loans) (h .unscored) ≡ d → Answer s (pick b (pick d (HeaderRefusal 4) (HeaderRead h)) (HeaderRefusal 3))
 judged s h w e true r true x = over h w r (ltb-true (h .loans) (h .unscored) x) e
 judged s h w e true r false x = held h w r (ltb-false (h .loans) (h .unscored) x) e
 judged s h w e false r true x = out h w r e
 judged s h w e false r false x = out h w r e
 
-answer-for : (s : List ℕ) (c : Content) → Written c → s ≡ bytesOf c → Answer s (headerFor c)
+answer-for : (s : List ℕ) (c : Content) → Writable c → s ≡ bytesOf c → Answer s (headerFor c)
 unfolding headerFor inRange
 answer-for s (header h) w e = judged s h w e (inRange (header h)) refl (ltb (h .loans) (h .unscored)) refl
 answer-for s (loan x) w e = other (loan x) tt w e
@@ -51,7 +51,7 @@ answer-for s NoForm w e = absurd w
 -- the answer obeys a rule
 answered : (s : List ℕ) → Answer s (headerOf s)
 unfolding headerOf headerFor
-answered s = answer-cases (HeaderRefusal 1) headerFor s (λ r. Answer s r) (λ l. long l) (λ l n. none l n) (λ c w e. answer-for s c w e)
+answered s = answer-cases (HeaderRefusal 1) headerFor s (λ r. Answer s r) (λ l. long l) (λ l n. formless l n) (λ c w e. answer-for s c w e)
 
 -- a rule gives its answer
 other-form : (c : Content) → AfterHeader c → headerFor c ≡ HeaderRefusal 7
@@ -68,114 +68,125 @@ header-range : (h : Header) → headerFor (header h) ≡ pick (inRange (header h
 unfolding headerFor inRange
 header-range h = refl
 
-read-as : (s : List ℕ) (c : Content) → Written c → s ≡ bytesOf c → headerOf s ≡ headerFor c
+read-as : (s : List ℕ) (c : Content) → Writable c → s ≡ bytesOf c → headerOf s ≡ headerFor c
 unfolding headerOf
 read-as s c w e = answer-held (HeaderRefusal 1) headerFor s c w e
 
 answers : (s : List ℕ) (r : HeaderLine) → Answer s r → headerOf s ≡ r
 unfolding headerOf headerFor
 answers s r (long l) = answer-long (HeaderRefusal 1) headerFor s l
-answers s r (none l n) = answer-none (HeaderRefusal 1) headerFor s l n
+answers s r (formless l n) = answer-none (HeaderRefusal 1) headerFor s l n
 answers s r (other c a w e) = read-as s c w e ∙ other-form c a
 answers s r (out h w o e) = read-as s (header h) w e ∙ header-range h ∙ rw o
 answers s r (over h w o l e) = read-as s (header h) w e ∙ header-range h ∙ rw (o, lt-ltb (h .loans) (h .unscored) l)
 answers s r (held h w o l e) = read-as s (header h) w e ∙ header-range h ∙ rw (o, le-ltb (h .loans) (h .unscored) l)
 
 -- an answer's number tells the rule
-rule1 : (s : List ℕ) (r : HeaderLine) → Answer s r → headerRefusalOf r ≡ 1 → 240 < length s
+rule1 : (s : List ℕ) (r : HeaderLine) → Answer s r → headerRefusal r ≡ 1 → 240 < length s
 rule1 s r (long l) q = l
-rule1 s r (none l n) q = absurd (omega arith)
+rule1 s r (formless l n) q = absurd (omega arith)
 rule1 s r (other c a w e) q = absurd (omega arith)
 rule1 s r (out h w o e) q = absurd (omega arith)
 rule1 s r (over h w o l e) q = absurd (omega arith)
 rule1 s r (held h w o l e) q = absurd (omega arith)
 
-rule2 : (s : List ℕ) (r : HeaderLine) → Answer s r → headerRefusalOf r ≡ 2 → (length s ≤ 240) × NoBytes s
+rule2 : (s : List ℕ) (r : HeaderLine) → Answer s r → headerRefusal r ≡ 2 → (length s ≤ 240) × NoBytes s
 rule2 s r (long l) q = absurd (omega arith)
-rule2 s r (none l n) q = (l, n)
+rule2 s r (formless l n) q = (l, n)
 rule2 s r (other c a w e) q = absurd (omega arith)
 rule2 s r (out h w o e) q = absurd (omega arith)
 rule2 s r (over h w o l e) q = absurd (omega arith)
 rule2 s r (held h w o l e) q = absurd (omega arith)
 
-rule7 : (s : List ℕ) (r : HeaderLine) → Answer s r → headerRefusalOf r ≡ 7 → (c : Content) × AfterHeader c × Written c × (s ≡ bytesOf c)
+rule7 : (s : List ℕ) (r : HeaderLine) → Answer s r → headerRefusal r ≡ 7 → (c : Content) × AfterHeader c × Writable c × (s ≡ bytesOf c)
 rule7 s r (long l) q = absurd (omega arith)
-rule7 s r (none l n) q = absurd (omega arith)
+rule7 s r (formless l n) q = absurd (omega arith)
 rule7 s r (other c a w e) q = (c, a, w, e)
 rule7 s r (out h w o e) q = absurd (omega arith)
 rule7 s r (over h w o l e) q = absurd (omega arith)
 rule7 s r (held h w o l e) q = absurd (omega arith)
 
-rule3 : (s : List ℕ) (r : HeaderLine) → Answer s r → headerRefusalOf r ≡ 3 → (h : Header) × Written (header h) × (inRange (header h) ≡ false) × (s ≡ bytesOf (header h))
+rule3 : (s : List ℕ) (r : HeaderLine) → Answer s r → headerRefusal r ≡ 3 → (h : Header) × Writable (header h) × (inRange (header h) ≡ false) × (s ≡ bytesOf (header h))
 rule3 s r (long l) q = absurd (omega arith)
-rule3 s r (none l n) q = absurd (omega arith)
+rule3 s r (formless l n) q = absurd (omega arith)
 rule3 s r (other c a w e) q = absurd (omega arith)
 rule3 s r (out h w o e) q = (h, w, o, e)
 rule3 s r (over h w o l e) q = absurd (omega arith)
 rule3 s r (held h w o l e) q = absurd (omega arith)
 
-rule4 : (s : List ℕ) (r : HeaderLine) → Answer s r → headerRefusalOf r ≡ 4 → (h : Header) × Written (header h) × (inRange (header h) ≡ true) × (h .loans < h .unscored) × (s ≡ bytesOf (header h))
+rule4 : (s : List ℕ) (r : HeaderLine) → Answer s r → headerRefusal r ≡ 4 → (h : Header) × Writable (header h) × (inRange (header h) ≡ true) × (h .loans < h .unscored) × (s ≡ bytesOf (header h))
 rule4 s r (long l) q = absurd (omega arith)
-rule4 s r (none l n) q = absurd (omega arith)
+rule4 s r (formless l n) q = absurd (omega arith)
 rule4 s r (other c a w e) q = absurd (omega arith)
 rule4 s r (out h w o e) q = absurd (omega arith)
 rule4 s r (over h w o l e) q = (h, w, o, l, e)
 rule4 s r (held h w o l e) q = absurd (omega arith)
 
-numbers : (s : List ℕ) (r : HeaderLine) → Answer s r → (n : ℕ) → r ≡ HeaderRefusal n → (n ≡ 1) ⊎ (n ≡ 2) ⊎ (n ≡ 7) ⊎ (n ≡ 3) ⊎ (n ≡ 4)
-numbers s r (long l) n z = inl (sym (ap headerRefusalOf z))
-numbers s r (none l k) n z = inr (inl (sym (ap headerRefusalOf z)))
-numbers s r (other c a w e) n z = inr (inr (inl (sym (ap headerRefusalOf z))))
-numbers s r (out h w o e) n z = inr (inr (inr (inl (sym (ap headerRefusalOf z)))))
-numbers s r (over h w o l e) n z = inr (inr (inr (inr (sym (ap headerRefusalOf z)))))
-numbers s r (held h w o l e) n z = let x : _≡_ {A = ℕ} 0 1 = cc in absurd (omega (arith, x))
+numbers : (s : List ℕ) (r : HeaderLine) → Answer s r → ((h : Header) × (headerContent r ≡ header h) × (headerRefusal r ≡ 0)) ⊎ (headerRefusal r ≡ 1) ⊎ (headerRefusal r ≡ 2) ⊎ (headerRefusal r ≡ 7) ⊎ (headerRefusal r ≡ 3) ⊎ (headerRefusal r ≡ 4)
+numbers s r (held h w o l e) = inl (h, refl, refl)
+numbers s r (long l) = inr (inl refl)
+numbers s r (formless l k) = inr (inr (inl refl))
+numbers s r (other c a w e) = inr (inr (inr (inl refl)))
+numbers s r (out h w o e) = inr (inr (inr (inr (inl refl))))
+numbers s r (over h w o l e) = inr (inr (inr (inr (inr refl))))
 
--- the header that an answer holds, or another
-heldIn : Header → HeaderLine → Header
-heldIn g (HeaderRead h) = h
-heldIn g (HeaderRefusal n) = g
+-- the header among a form's data, or another
+headerIn : Header → Content → Header
+headerIn g (header h) = h
+headerIn g (loan x) = g
+headerIn g (policy x) = g
+headerIn g (derivative x) = g
+headerIn g (asset x) = g
+headerIn g (amount x) = g
+headerIn g NoForm = g
 
-rule0 : (s : List ℕ) (r : HeaderLine) → Answer s r → (g : Header) → r ≡ HeaderRead g → Written (header g) × (inRange (header g) ≡ true) × (g .unscored ≤ g .loans) × (s ≡ bytesOf (header g))
-unfolding heldIn
-rule0 s r (long l) g z = absurd (omega (arith, ap headerRefusalOf z))
-rule0 s r (none l n) g z = absurd (omega (arith, ap headerRefusalOf z))
-rule0 s r (other c a w e) g z = absurd (omega (arith, ap headerRefusalOf z))
-rule0 s r (out h w o e) g z = absurd (omega (arith, ap headerRefusalOf z))
-rule0 s r (over h w o l e) g z = absurd (omega (arith, ap headerRefusalOf z))
-rule0 s r (held h w o l e) g z =
-    subst (λ (x : Header). Written (header x) × (inRange (header x) ≡ true) × (x .unscored ≤ x .loans) × (s ≡ bytesOf (header x)))
-    (ap (heldIn g) z)
+rule0 : (s : List ℕ) (r : HeaderLine) → Answer s r → headerRefusal r ≡ 0 → (g : Header) → headerContent r ≡ header g → Writable (header g) × (inRange (header g) ≡ true) × (g .unscored ≤ g .loans) × (s ≡ bytesOf (header g))
+unfolding headerIn
+rule0 s r (long l) q g z = absurd (omega arith)
+rule0 s r (formless l n) q g z = absurd (omega arith)
+rule0 s r (other c a w e) q g z = absurd (omega arith)
+rule0 s r (out h w o e) q g z = absurd (omega arith)
+rule0 s r (over h w o l e) q g z = absurd (omega arith)
+rule0 s r (held h w o l e) q g z =
+    subst (λ (x : Header). Writable (header x) × (inRange (header x) ≡ true) × (x .unscored ≤ x .loans) × (s ≡ bytesOf (header x)))
+    (ap (headerIn g) z)
     (w, o, l, e)
 
-pub header-reading : (s : List ℕ) → HeaderReading s
+pub header-reading : (s : List ℕ) → HeaderReading s (headerOf s)
 header-reading s = record {
   accepted = λ h. (
-    λ e. rule0 s (headerOf s) (answered s) h e,
-    λ k. answers s (HeaderRead h) (held h (k .0) (k .1) (k .2) (k .3)),
+    λ e. rule0 s (headerOf s) (answered s) (e .0) h (e .1),
+    λ k. rw (answers s (HeaderRead h) (held h (k .0) (k .1) (k .2) (k .3))) (refl, refl),
   );
-  numbers = λ n e. numbers s (headerOf s) (answered s) n e;
-  refused1 =
-      (λ e. rule1 s (headerOf s) (answered s) (ap headerRefusalOf e), λ l. answers s (HeaderRefusal 1) (long l));
+  numbers = numbers s (headerOf s) (answered s);
+  refused1 = (λ e. rule1 s (headerOf s) (answered s) e, λ l. ap headerRefusal (answers s (HeaderRefusal 1) (long l)));
   refused2 = (
-    λ e. rule2 s (headerOf s) (answered s) (ap headerRefusalOf e),
-    λ k. answers s (HeaderRefusal 2) (none (k .0) (k .1)),
+    λ e. rule2 s (headerOf s) (answered s) e,
+    λ k. ap headerRefusal (answers s (HeaderRefusal 2) (formless (k .0) (k .1))),
   );
   refused7 = (
-    λ e. rule7 s (headerOf s) (answered s) (ap headerRefusalOf e),
-    λ k. answers s (HeaderRefusal 7) (other (k .0) (k .1) (k .2) (k .3)),
+    λ e. rule7 s (headerOf s) (answered s) e,
+    λ k. ap headerRefusal (answers s (HeaderRefusal 7) (other (k .0) (k .1) (k .2) (k .3))),
   );
   refused3 = (
-    λ e. rule3 s (headerOf s) (answered s) (ap headerRefusalOf e),
-    λ k. answers s (HeaderRefusal 3) (out (k .0) (k .1) (k .2) (k .3)),
+    λ e. rule3 s (headerOf s) (answered s) e,
+    λ k. ap headerRefusal (answers s (HeaderRefusal 3) (out (k .0) (k .1) (k .2) (k .3))),
   );
   refused4 = (
-    λ e. rule4 s (headerOf s) (answered s) (ap headerRefusalOf e),
-    λ k. answers s (HeaderRefusal 4) (over (k .0) (k .1) (k .2) (k .3) (k .4)),
+    λ e. rule4 s (headerOf s) (answered s) e,
+    λ k. ap headerRefusal (answers s (HeaderRefusal 4) (over (k .0) (k .1) (k .2) (k .3) (k .4))),
   );
 }
 
+-- The same by the answer's case, for one that is known.
+pub header-accepted : (s : List ℕ) (h : Header) → (headerOf s ≡ HeaderRead h) ↔ (Writable (header h) × (inRange (header h) ≡ true) × (h .unscored ≤ h .loans) × (s ≡ bytesOf (header h)))
+header-accepted s h = (
+  λ e. header-reading s .accepted h .0 (ap headerRefusal e, ap headerContent e),
+  λ k. answers s (HeaderRead h) (held h (k .0) (k .1) (k .2) (k .3)),
+)
+
 -- a header in its ranges has numbers that a D can write
-header-written : (h : Header) → inRange (header h) ≡ true → h .unscored ≤ h .loans → Written (header h)
+header-written : (h : Header) → inRange (header h) ≡ true → h .unscored ≤ h .loans → Writable (header h)
 unfolding inRange headerInRange
 header-written h r u =
     let a = and-both (within 0 1000000 (h .loans)) (within 0 10000000000000 (h .held)) r in

@@ -1,11 +1,15 @@
 pub mod AnswerLaws
 pub mod Bounds
 pub mod Bytes
+pub mod Choices
 pub mod ContentLaws
+pub mod Examples
 pub mod FieldLaws
 pub mod FormLaws
 pub mod HeaderLaws
 pub mod LineLaws
+pub mod NumberLaws
 pub mod Numerals
 pub mod Positions
+pub mod ScoreLaws
 pub mod Sizes

@@ -4,12 +4,12 @@ use native.Mathlib.Omega.{arith}
 use mathlib.Core.Path.{_≡_, refl, sym, _∙_, ap, subst}
 use mathlib.Core.Bool.{Bool, true, false}
 use mathlib.Core.List.{List}
-use mathlib.Core.Logic.{_⊎_, inl, inr}
+use mathlib.Core.Logic.{_↔_, _⊎_, inl, inr}
 use lib.ListN.{length}
 use Rattle.exact.specs.Choice.{pick}
-use Rattle.line_forms.specs.Contents.{bytesOf, Written, inRange}
+use Rattle.line_forms.specs.Contents.{bytesOf, Writable, inRange}
 use Rattle.line_forms.specs.Readings.{lineOf, lineFor}
-use Rattle.line_forms.specs.Claims.{AfterHeader, lineWith, refusalOf, heldBy, NoBytes, LineReading}
+use Rattle.line_forms.specs.Claims.{AfterHeader, lineWith, lineRefusal, lineContent, NoBytes, LineReading}
 use Rattle.line_forms.specs.declared.Header.{Header}
 use Rattle.line_forms.specs.declared.Content.{Content}
 use Rattle.line_forms.specs.declared.Content.the-variants.{Header as header, Loan as loan, Policy as policy, Derivative as derivative, Asset as asset, Amount as amount, NoForm}
@@ -20,17 +20,17 @@ use Rattle.line_forms.proofs.AnswerLaws.{answer-long, answer-none, answ
 -- The rules of line reading, one for each answer.
 data Answer (s : List ℕ) : Line → Type 0 where
   long : 240 < length s → Answer s (Refusal 1)
-  none : length s ≤ 240 → NoBytes s → Answer s (Refusal 2)
-  head : (h : Header) → Written (header h) → s ≡ bytesOf (header h) → Answer s (Refusal 7)
-  out : (c : Content) → AfterHeader c → Written c → inRange c ≡ false → s ≡ bytesOf c → Answer s (Refusal 3)
-  held : (c : Content) → AfterHeader c → Written c → inRange c ≡ true → s ≡ bytesOf c → Answer s (lineWith c)
+  formless : length s ≤ 240 → NoBytes s → Answer s (Refusal 2)
+  head : (h : Header) → Writable (header h) → s ≡ bytesOf (header h) → Answer s (Refusal 7)
+  out : (c : Content) → AfterHeader c → Writable c → inRange c ≡ false → s ≡ bytesOf c → Answer s (Refusal 3)
+  held : (c : Content) → AfterHeader c → Writable c → inRange c ≡ true → s ≡ bytesOf c → Answer s (lineWith c)
 
 -- the answer for data after the header
-judged : (s : List ℕ) (c : Content) → AfterHeader c → Written c → s ≡ bytesOf c → (b : Bool) → inRange c ≡ b → Answer s (pick b (lineWith c) (Refusal 3))
+judged : (s : List ℕ) (c : Content) → AfterHeader c → Writable c → s ≡ bytesOf c → (b : Bool) → inRange c ≡ b → Answer s (pick b (lineWith c) (Refusal 3))
 judged s c a w e true r = held c a w r e
 judged s c a w e false r = out c a w r e
 
-answer-for : (s : List ℕ) (c : Content) → Written c → s ≡ bytesOf c → Answer s (lineFor c)
+answer-for : (s : List ℕ) (c : Content) → Writable c → s ≡ bytesOf c → Answer s (lineFor c)
 unfolding lineFor inRange
 answer-for s (header h) w e = head h w e
 answer-for s (loan x) w e = judged s (loan x) tt w e (inRange (loan x)) refl
@@ -43,7 +43,7 @@ answer-for s NoForm w e = absurd w
 -- the answer obeys a rule
 answered : (s : List ℕ) → Answer s (lineOf s)
 unfolding lineOf lineFor
-answered s = answer-cases (Refusal 1) lineFor s (λ r. Answer s r) (λ l. long l) (λ l n. none l n) (λ c w e. answer-for s c w e)
+answered s = answer-cases (Refusal 1) lineFor s (λ r. Answer s r) (λ l. long l) (λ l n. formless l n) (λ c w e. answer-for s c w e)
 
 -- a rule gives its answer
 line-range : (c : Content) → AfterHeader c → lineFor c ≡ pick (inRange c) (lineWith c) (Refusal 3)
@@ -56,19 +56,19 @@ line-range (asset x) a = refl
 line-range (amount x) a = refl
 line-range NoForm a = absurd a
 
-read-as : (s : List ℕ) (c : Content) → Written c → s ≡ bytesOf c → lineOf s ≡ lineFor c
+read-as : (s : List ℕ) (c : Content) → Writable c → s ≡ bytesOf c → lineOf s ≡ lineFor c
 unfolding lineOf
 read-as s c w e = answer-held (Refusal 1) lineFor s c w e
 
 answers : (s : List ℕ) (r : Line) → Answer s r → lineOf s ≡ r
 unfolding lineOf lineFor
 answers s r (long l) = answer-long (Refusal 1) lineFor s l
-answers s r (none l n) = answer-none (Refusal 1) lineFor s l n
+answers s r (formless l n) = answer-none (Refusal 1) lineFor s l n
 answers s r (head h w e) = read-as s (header h) w e
 answers s r (out c a w o e) = read-as s c w e ∙ line-range c a ∙ rw o
 answers s r (held c a w o e) = read-as s c w e ∙ line-range c a ∙ rw o
 
-accepted-number : (c : Content) → AfterHeader c → refusalOf (lineWith c) ≡ 0
+accepted-number : (c : Content) → AfterHeader c → lineRefusal (lineWith c) ≡ 0
 accepted-number (header h) a = absurd a
 accepted-number (loan x) a = refl
 accepted-number (policy x) a = refl
@@ -77,7 +77,7 @@ accepted-number (asset x) a = refl
 accepted-number (amount x) a = refl
 accepted-number NoForm a = absurd a
 
-accepted-data : (c : Content) → AfterHeader c → heldBy (lineWith c) ≡ c
+accepted-data : (c : Content) → AfterHeader c → lineContent (lineWith c) ≡ c
 accepted-data (header h) a = absurd a
 accepted-data (loan x) a = refl
 accepted-data (policy x) a = refl
@@ -87,66 +87,72 @@ accepted-data (amount x) a = refl
 accepted-data NoForm a = absurd a
 
 -- an answer's number tells the rule
-rule1 : (s : List ℕ) (r : Line) → Answer s r → refusalOf r ≡ 1 → 240 < length s
+rule1 : (s : List ℕ) (r : Line) → Answer s r → lineRefusal r ≡ 1 → 240 < length s
 rule1 s r (long l) q = l
-rule1 s r (none l n) q = absurd (omega arith)
+rule1 s r (formless l n) q = absurd (omega arith)
 rule1 s r (head h w e) q = absurd (omega arith)
 rule1 s r (out c a w o e) q = absurd (omega arith)
 rule1 s r (held c a w o e) q = absurd (omega (arith, accepted-number c a))
 
-rule2 : (s : List ℕ) (r : Line) → Answer s r → refusalOf r ≡ 2 → (length s ≤ 240) × NoBytes s
+rule2 : (s : List ℕ) (r : Line) → Answer s r → lineRefusal r ≡ 2 → (length s ≤ 240) × NoBytes s
 rule2 s r (long l) q = absurd (omega arith)
-rule2 s r (none l n) q = (l, n)
+rule2 s r (formless l n) q = (l, n)
 rule2 s r (head h w e) q = absurd (omega arith)
 rule2 s r (out c a w o e) q = absurd (omega arith)
 rule2 s r (held c a w o e) q = absurd (omega (arith, accepted-number c a))
 
-rule7 : (s : List ℕ) (r : Line) → Answer s r → refusalOf r ≡ 7 → (h : Header) × Written (header h) × (s ≡ bytesOf (header h))
+rule7 : (s : List ℕ) (r : Line) → Answer s r → lineRefusal r ≡ 7 → (h : Header) × Writable (header h) × (s ≡ bytesOf (header h))
 rule7 s r (long l) q = absurd (omega arith)
-rule7 s r (none l n) q = absurd (omega arith)
+rule7 s r (formless l n) q = absurd (omega arith)
 rule7 s r (head h w e) q = (h, w, e)
 rule7 s r (out c a w o e) q = absurd (omega arith)
 rule7 s r (held c a w o e) q = absurd (omega (arith, accepted-number c a))
 
-rule3 : (s : List ℕ) (r : Line) → Answer s r → refusalOf r ≡ 3 → (c : Content) × AfterHeader c × Written c × (inRange c ≡ false) × (s ≡ bytesOf c)
+rule3 : (s : List ℕ) (r : Line) → Answer s r → lineRefusal r ≡ 3 → (c : Content) × AfterHeader c × Writable c × (inRange c ≡ false) × (s ≡ bytesOf c)
 rule3 s r (long l) q = absurd (omega arith)
-rule3 s r (none l n) q = absurd (omega arith)
+rule3 s r (formless l n) q = absurd (omega arith)
 rule3 s r (head h w e) q = absurd (omega arith)
 rule3 s r (out c a w o e) q = (c, a, w, o, e)
 rule3 s r (held c a w o e) q = absurd (omega (arith, accepted-number c a))
 
-numbers : (s : List ℕ) (r : Line) → Answer s r → (n : ℕ) → r ≡ Refusal n → (n ≡ 1) ⊎ (n ≡ 2) ⊎ (n ≡ 7) ⊎ (n ≡ 3)
-numbers s r (long l) n z = inl (sym (ap refusalOf z))
-numbers s r (none l k) n z = inr (inl (sym (ap refusalOf z)))
-numbers s r (head h w e) n z = inr (inr (inl (sym (ap refusalOf z))))
-numbers s r (out c a w o e) n z = inr (inr (inr (sym (ap refusalOf z))))
-numbers s r (held c a w o e) n z =
-    absurd (subst AfterHeader (sym (accepted-data c a) ∙ ap heldBy z) a)
+numbers : (s : List ℕ) (r : Line) → Answer s r → (AfterHeader (lineContent r) × (lineRefusal r ≡ 0)) ⊎ (lineRefusal r ≡ 1) ⊎ (lineRefusal r ≡ 2) ⊎ (lineRefusal r ≡ 7) ⊎ (lineRefusal r ≡ 3)
+numbers s r (held c a w o e) = inl (rw (accepted-data c a) a, accepted-number c a)
+numbers s r (long l) = inr (inl refl)
+numbers s r (formless l k) = inr (inr (inl refl))
+numbers s r (head h w e) = inr (inr (inr (inl refl)))
+numbers s r (out c a w o e) = inr (inr (inr (inr refl)))
 
-rule0 : (s : List ℕ) (r : Line) → Answer s r → refusalOf r ≡ 0 → (c : Content) → AfterHeader c → r ≡ lineWith c → Written c × (inRange c ≡ true) × (s ≡ bytesOf c)
-rule0 s r (long l) q c a z = absurd (omega arith)
-rule0 s r (none l n) q c a z = absurd (omega arith)
-rule0 s r (head h w e) q c a z = absurd (omega arith)
-rule0 s r (out d b w o e) q c a z = absurd (omega arith)
-rule0 s r (held d b w o e) q c a z =
-    subst (λ (x : Content). Written x × (inRange x ≡ true) × (s ≡ bytesOf x))
-    (sym (accepted-data d b) ∙ ap heldBy z ∙ accepted-data c a)
-    (w, o, e)
+rule0 : (s : List ℕ) (r : Line) → Answer s r → lineRefusal r ≡ 0 → (c : Content) → lineContent r ≡ c → Writable c × (inRange c ≡ true) × (s ≡ bytesOf c)
+rule0 s r (long l) q c z = absurd (omega arith)
+rule0 s r (formless l n) q c z = absurd (omega arith)
+rule0 s r (head h w e) q c z = absurd (omega arith)
+rule0 s r (out d b w o e) q c z = absurd (omega arith)
+rule0 s r (held d b w o e) q c z =
+    subst (λ (x : Content). Writable x × (inRange x ≡ true) × (s ≡ bytesOf x)) (sym (accepted-data d b) ∙ z) (w, o, e)
 
-pub line-reading : (s : List ℕ) → LineReading s
+pub line-reading : (s : List ℕ) → LineReading s (lineOf s)
 line-reading s = record {
   accepted = λ c a. (
-    λ e. rule0 s (lineOf s) (answered s) (ap refusalOf e ∙ accepted-number c a) c a e,
-    λ k. answers s (lineWith c) (held c a (k .0) (k .1) (k .2)),
+    λ e. rule0 s (lineOf s) (answered s) (e .0) c (e .1),
+    λ k. rw (answers s (lineWith c) (held c a (k .0) (k .1) (k .2))) (accepted-number c a, accepted-data c a),
   );
-  numbers = λ n e. numbers s (lineOf s) (answered s) n e;
-  refused1 = (λ e. rule1 s (lineOf s) (answered s) (ap refusalOf e), λ l. answers s (Refusal 1) (long l));
+  numbers = numbers s (lineOf s) (answered s);
+  refused1 = (λ e. rule1 s (lineOf s) (answered s) e, λ l. ap lineRefusal (answers s (Refusal 1) (long l)));
   refused2 =
-      (λ e. rule2 s (lineOf s) (answered s) (ap refusalOf e), λ k. answers s (Refusal 2) (none (k .0) (k .1)));
-  refused7 =
-      (λ e. rule7 s (lineOf s) (answered s) (ap refusalOf e), λ k. answers s (Refusal 7) (head (k .0) (k .1) (k .2)));
+      (λ e. rule2 s (lineOf s) (answered s) e, λ k. ap lineRefusal (answers s (Refusal 2) (formless (k .0) (k .1))));
+  refused7 = (
+    λ e. rule7 s (lineOf s) (answered s) e,
+    λ k. ap lineRefusal (answers s (Refusal 7) (head (k .0) (k .1) (k .2))),
+  );
   refused3 = (
-    λ e. rule3 s (lineOf s) (answered s) (ap refusalOf e),
-    λ k. answers s (Refusal 3) (out (k .0) (k .1) (k .2) (k .3) (k .4)),
+    λ e. rule3 s (lineOf s) (answered s) e,
+    λ k. ap lineRefusal (answers s (Refusal 3) (out (k .0) (k .1) (k .2) (k .3) (k .4))),
   );
 }
+
+-- The same by the answer's case, for one that is known.
+pub line-accepted : (s : List ℕ) (c : Content) → AfterHeader c → (lineOf s ≡ lineWith c) ↔ (Writable c × (inRange c ≡ true) × (s ≡ bytesOf c))
+line-accepted s c a = (
+  λ e. line-reading s .accepted c a .0 (ap lineRefusal e ∙ accepted-number c a, ap lineContent e ∙ accepted-data c a),
+  λ k. answers s (lineWith c) (held c a (k .0) (k .1) (k .2)),
+)

@@ -1,33 +1,54 @@
 -- Laws of D and S: a number's digits and the number that digits give.
 use Prim.Native.Nat.{ℕ, zero, suc, _+_, _-_, _*_, _/_, _%_, _^_, _≤_, _<_}
-use native.Mathlib.Nat.{pow-suc, pow-le-pow-right, add-suc, add-zero, zero-add, suc-add, lt-of-lt-of-le, mul-le-mul-right}
+use native.Mathlib.Nat.{pow-suc, pow-le-pow-right, zero-add, lt-of-lt-of-le, mul-le-mul-right}
 use native.Mathlib.Numerals.{add-one}
 use native.Mathlib.Omega.{arith}
 use mathlib.Core.Path.{_≡_, refl, sym, _∙_}
-use mathlib.Core.Bool.{true, false, _&&_, not}
+use mathlib.Core.Bool.{Bool, true, false, _&&_, _||_, not}
 use mathlib.Core.List.{List, [], _∷_, _++_, append-nil, append-assoc}
-use borrow.Author.Tests.{eq-eqb, ne-eqb, leb-true, ltb-true, le-leb, lt-leb, lt-ltb, le-ltb, not-true}
+use borrow.Author.Tests.{eq-eqb, ne-eqb, eqb-false, ltb-false, leb-true, ltb-true, le-leb, lt-ltb, le-ltb, not-true}
 use lib.Dec.{eqb, leb, ltb, lit<}
 use native.Mathlib.Decide.{decLt}
-use lib.ListN.{length, drop, getD, length-append, List·getD-append}
+use lib.ListN.{length, drop, getD, List·getD-append}
 use lib.Seq.{drop-cons}
 use Rattle.line_forms.specs.Bytes.{within, allWithin}
-use Rattle.line_forms.specs.Numerals.{isNumeral, valueFrom, numberOf, digitsOf, decimal, limit}
-use Rattle.line_forms.specs.declared.Number.the-variants.{Value, Missing}
-use Rattle.line_forms.proofs.Bytes.{false-and, and-both, within-bounds}
+use Rattle.exact.specs.Decimal.{digit, leading, digits}
+use Rattle.exact.proofs.Decimal.{digits-one, digits-more, digits-some, digits-nonzero, digits-length}
+use Rattle.line_forms.specs.Numerals.{isNumeral, valueFrom, decimal, limit}
+use Rattle.line_forms.proofs.Bytes.{false-and, and-both, or-false, within-bounds, all-append}
 
--- one digit more
-pub all-step : (t : List ℕ) (i : ℕ) → i < length t → within 48 57 (getD t i 0) ≡ true → allWithin 48 57 (drop i t) ≡ allWithin 48 57 (drop (i + 1) t)
+-- every byte of digits is one
+pub all-at : (t : List ℕ) (i : ℕ) → allWithin 48 57 t ≡ true → i < length t → (48 ≤ getD t i 0) × (getD t i 0 ≤ 57)
 unfolding allWithin
-all-step t i h e = rw (add-one, drop-cons t i 0 h, e)
-
-pub all-fails : (t : List ℕ) (i : ℕ) → i < length t → within 48 57 (getD t i 0) ≡ false → allWithin 48 57 (drop i t) ≡ false
-unfolding allWithin
-all-fails t i h e = rw (drop-cons t i 0 h, e)
+all-at [] i h l = absurd (omega arith)
+all-at (b ∷ t) zero h l = within-bounds 48 57 b (and-both (within 48 57 b) (allWithin 48 57 t) h .0)
+all-at (b ∷ t) (suc i) h l = all-at t i (and-both (within 48 57 b) (allWithin 48 57 t) h .1) (omega arith)
 
 pub value-step : (a : ℕ) (t : List ℕ) (i : ℕ) → i < length t → valueFrom a (drop i t) ≡ valueFrom (a * 10 + (getD t i 0 - 48)) (drop (i + 1) t)
 unfolding valueFrom
 value-step a t i h = rw (add-one, drop-cons t i 0 h)
+
+-- the value of one, two or three digits
+pub value-one : (t : List ℕ) → length t ≡ 1 → getD t 0 0 - 48 ≡ valueFrom 0 t
+unfolding valueFrom
+value-one [] h = absurd (omega arith)
+value-one (a ∷ []) h = omega arith
+value-one (a ∷ b ∷ t) h = absurd (omega arith)
+
+pub value-two : (t : List ℕ) → length t ≡ 2 → (getD t 0 0 - 48) * 10 + (getD t 1 0 - 48) ≡ valueFrom 0 t
+unfolding valueFrom
+value-two [] h = absurd (omega arith)
+value-two (a ∷ []) h = absurd (omega arith)
+value-two (a ∷ b ∷ []) h = omega arith
+value-two (a ∷ b ∷ d ∷ t) h = absurd (omega arith)
+
+pub value-three : (t : List ℕ) → length t ≡ 3 → ((getD t 0 0 - 48) * 10 + (getD t 1 0 - 48)) * 10 + (getD t 2 0 - 48) ≡ valueFrom 0 t
+unfolding valueFrom
+value-three [] h = absurd (omega arith)
+value-three (a ∷ []) h = absurd (omega arith)
+value-three (a ∷ b ∷ []) h = absurd (omega arith)
+value-three (a ∷ b ∷ d ∷ []) h = omega arith
+value-three (a ∷ b ∷ d ∷ e ∷ t) h = absurd (omega arith)
 
 -- a number of i digits, i at most 14, and one digit more
 pub ten-more : (v d i : ℕ) → v < 10 ^ i → d ≤ 9 → v * 10 + d < 10 ^ (i + 1)
@@ -36,166 +57,91 @@ ten-more v d i h k = rw (add-one, pow-suc 10 i) (omega arith)
 pub below-limit : (v i : ℕ) → v < 10 ^ i → i ≤ 14 → v < 100000000000000
 below-limit v i h k = omega (arith, pow-le-pow-right {n = 10} (lit< tt) k)
 
--- why a part is no D, and that it is one
-pub missing-empty : (t : List ℕ) → length t ≡ 0 → Missing ≡ numberOf t
-unfolding numberOf isNumeral
-missing-empty t h = rw h
+-- what the test says
+pub record IsNumeral (t : List ℕ) : Type 0 where
+  pub some : 0 < length t
+  pub short : length t ≤ 14
+  pub leads : (eqb (getD t 0 0) 48 && ltb 1 (length t)) ≡ false
+  pub digits : allWithin 48 57 t ≡ true
 
-pub missing-long : (t : List ℕ) → 14 < length t → Missing ≡ numberOf t
-unfolding numberOf isNumeral
-missing-long t h = rw (lt-leb (length t) 14 h, false-and)
+pub is-numeral : (t : List ℕ) → isNumeral t ≡ true → IsNumeral t
+unfolding isNumeral
+is-numeral t h =
+    let a = and-both (ltb 0 (length t) && leb (length t) 14 && not (eqb (getD t 0 0) 48 && ltb 1 (length t))) (allWithin 48 57 t) h in
+    let b = and-both (ltb 0 (length t) && leb (length t) 14) (not (eqb (getD t 0 0) 48 && ltb 1 (length t))) (a .0) in
+    let e = and-both (ltb 0 (length t)) (leb (length t) 14) (b .0) in
+    record {
+      some = ltb-true 0 (length t) (e .0);
+      short = leb-true (length t) 14 (e .1);
+      leads = not-true (eqb (getD t 0 0) 48 && ltb 1 (length t)) (b .1);
+      digits = a .1;
+    }
 
-pub missing-zero : (t : List ℕ) → (eqb (getD t 0 0) 48 && ltb 1 (length t)) ≡ true → Missing ≡ numberOf t
-unfolding numberOf isNumeral
-missing-zero t e = rw (e, false-and)
+-- why digits are no D, and that they are one
+pub count-some : (n : ℕ) → (eqb n 0 || ltb 14 n) ≡ false → (0 < n) × (n ≤ 14)
+count-some n h =
+    let k = or-false (eqb n 0) (ltb 14 n) h in
+    let z : n ≡ 0 → ⊥ = eqb-false n 0 (k .0) in
+    (omega arith, ltb-false 14 n (k .1))
 
-pub missing-other : (t : List ℕ) → allWithin 48 57 t ≡ false → Missing ≡ numberOf t
-unfolding numberOf isNumeral
-missing-other t e = rw (e, false-and)
-
-pub value-is : (t : List ℕ) → (length t ≡ 0 → ⊥) → length t ≤ 14 → (eqb (getD t 0 0) 48 && ltb 1 (length t)) ≡ false → allWithin 48 57 t ≡ true → Value (valueFrom 0 t) ≡ numberOf t
-unfolding numberOf isNumeral
-value-is t a b e f =
-    let h : 0 < length t = omega arith in
-    rw (lt-ltb 0 (length t) h, le-leb (length t) 14 b, e, f)
-
--- A number's digits give the number back.
-
-pub value-snoc : (a : ℕ) (t : List ℕ) (d : ℕ) → valueFrom a (t ++ (d ∷ [])) ≡ valueFrom a t * 10 + (d - 48)
-unfolding valueFrom
-value-snoc a [] d = refl
-value-snoc a (x ∷ t) d = value-snoc (a * 10 + (x - 48)) t d
-
-pub all-append : (low high : ℕ) (s t : List ℕ) → allWithin low high s ≡ true → allWithin low high t ≡ true → allWithin low high (s ++ t) ≡ true
-unfolding allWithin
-all-append low high [] t h k = k
-all-append low high (b ∷ s) t h k =
-    let e : (within low high b ≡ true) × (allWithin low high s ≡ true) = and-both (within low high b) (allWithin low high s) h in
-    rw (e .0) (all-append low high s t (e .1) k)
-
--- the last digit
-last-value : (n : ℕ) → 48 + n % 10 - 48 ≡ n % 10
-last-value n = omega arith
-
-last-digit : (n : ℕ) → allWithin 48 57 ((48 + n % 10) ∷ []) ≡ true
-unfolding allWithin
-last-digit n = rw (le-leb 48 (48 + n % 10) (omega arith), le-leb (48 + n % 10) 57 (omega arith))
-
--- what it means that t is the digits of n, at most k + 1 of them
-record Digits (k n : ℕ) (t : List ℕ) : Type 0 where
-  value : valueFrom 0 t ≡ n
-  digits : allWithin 48 57 t ≡ true
-  short : length t ≤ suc k
-  some : 0 < length t
-  leads : 0 < n → getD t 0 0 ≡ 48 → ⊥
-
-one-digit : (k n : ℕ) → n < 10 → Digits k n ((48 + n % 10) ∷ [])
-unfolding valueFrom
-one-digit k n h = record {
-  value = omega arith;
-  digits = last-digit n;
-  short = omega arith;
-  some = omega arith;
-  leads = λ p e. omega arith;
-}
-
-more-digits : (k n : ℕ) (t : List ℕ) → 10 ≤ n → Digits k (n / 10) t → Digits (suc k) n (t ++ ((48 + n % 10) ∷ []))
-more-digits k n t h w = record {
-  value = value-snoc 0 t (48 + n % 10) ∙ omega (arith, w .value);
-  digits = all-append 48 57 t ((48 + n % 10) ∷ []) (w .digits) (last-digit n);
-  short = simp length-append (omega arith);
-  some = simp length-append (omega arith);
-  leads = λ p e. w .leads (omega arith) (sym (List·getD-append t ((48 + n % 10) ∷ []) 0 0 (w .some)) ∙ e);
-}
-
--- the digits of a number below 10, and of any other
-pub digits-one : (k n : ℕ) → n < 10 → digitsOf k n ≡ (48 + n % 10) ∷ []
-unfolding digitsOf
-digits-one zero n h = refl
-digits-one (suc k) n h = rw (lt-ltb n 10 h)
-
-pub digits-more : (k n : ℕ) → 10 ≤ n → digitsOf (suc k) n ≡ digitsOf k (n / 10) ++ ((48 + n % 10) ∷ [])
-unfolding digitsOf
-digits-more k n h = rw (le-ltb n 10 h)
-
-written : (k n : ℕ) → n < 10 ^ suc k → Digits k n (digitsOf k n)
-written zero n h = rw (digits-one zero n h) (one-digit zero n h)
-written (suc k) n h = elim (decLt n 10) [ yes l ↦ small l | no l ↦ large (written k (n / 10) below) l ]
+pub none-count : (t : List ℕ) → (eqb (length t) 0 || ltb 14 (length t)) ≡ true → isNumeral t ≡ false
+none-count t h = go (isNumeral t) refl
   where
-    below : n / 10 < 10 ^ suc k
-    below = omega (arith, pow-suc 10 (suc k))
+    go : (b : Bool) → isNumeral t ≡ b → isNumeral t ≡ false
+    go true e =
+        let k = is-numeral t e in
+        let z : length t ≡ 0 → ⊥ = λ q. omega (arith, k .some) in
+        let f : (eqb (length t) 0 || ltb 14 (length t)) ≡ false = rw (ne-eqb (length t) 0 z, le-ltb 14 (length t) (k .short)) in
+        let x : _≡_ {A = ℕ} 0 1 = cc (h, f) in
+        absurd (omega (arith, x))
+    go false e = e
 
-    small : n < 10 → Digits (suc k) n (digitsOf (suc k) n)
-    small l = rw (digits-one (suc k) n l) (one-digit (suc k) n l)
+pub none-zero : (t : List ℕ) → (eqb (getD t 0 0) 48 && ltb 1 (length t)) ≡ true → isNumeral t ≡ false
+unfolding isNumeral
+none-zero t e = rw (e, false-and)
 
-    large : Digits k (n / 10) (digitsOf k (n / 10)) → (n < 10 → ⊥) → Digits (suc k) n (digitsOf (suc k) n)
-    large w l =
-        let m : 10 ≤ n = omega arith in
-        rw (digits-more k n m) (more-digits k n (digitsOf k (n / 10)) m w)
-
--- A number below the limit is written as a D, which gives it back.
-numeral-of : (t : List ℕ) → 0 < length t → length t ≤ 14 → (eqb (getD t 0 0) 48 && ltb 1 (length t)) ≡ false → allWithin 48 57 t ≡ true → isNumeral t ≡ true
+pub numeral-of : (t : List ℕ) → 0 < length t → length t ≤ 14 → (eqb (getD t 0 0) 48 && ltb 1 (length t)) ≡ false → allWithin 48 57 t ≡ true → isNumeral t ≡ true
 unfolding isNumeral
 numeral-of t a b e f = rw (lt-ltb 0 (length t) a, le-leb (length t) 14 b, e, f)
 
+last-digit : (n : ℕ) → allWithin 48 57 (digit (n % 10) ∷ []) ≡ true
+unfolding allWithin
+last-digit n = rw (le-leb 48 (48 + n % 10) (omega arith), le-leb (48 + n % 10) 57 (omega arith))
+
+-- A number below the limit is written as a D, which gives it back.
+
+leading-digits : (k n : ℕ) → allWithin 48 57 (leading k n) ≡ true
+unfolding leading allWithin
+leading-digits zero n = refl
+leading-digits (suc k) zero = refl
+leading-digits (suc k) (suc m) = all-append 48 57 (leading k (suc m / 10)) (digit (suc m % 10) ∷ []) (leading-digits k (suc m / 10)) (last-digit (suc m))
+
+pub decimal-digits : (n : ℕ) → allWithin 48 57 (decimal n) ≡ true
+unfolding digits
+decimal-digits n = all-append 48 57 (leading n (n / 10)) (digit (n % 10) ∷ []) (leading-digits n (n / 10)) (last-digit n)
+
+pub decimal-short : (n : ℕ) → n < limit → length (decimal n) ≤ 14
+decimal-short n h = digits-length 13 n h
+
 pub decimal-numeral : (n : ℕ) → n < limit → isNumeral (decimal n) ≡ true
-decimal-numeral n h = elim (decLt n 10) [ yes l ↦ small l | no l ↦ large l ]
+decimal-numeral n h = numeral-of (decimal n) (digits-some n) (decimal-short n h) (elim (decLt n 10) [ yes l ↦ one l | no l ↦ more l ]) (decimal-digits n)
   where
-    small : n < 10 → isNumeral (decimal n) ≡ true
-    small l =
-        rw (digits-one 13 n l)
-        (numeral-of ((48 + n % 10) ∷ []) (omega arith) (omega arith) (false-and (eqb (48 + n % 10) 48)) (last-digit n))
+    one : n < 10 → (eqb (getD (decimal n) 0 0) 48 && ltb 1 (length (decimal n))) ≡ false
+    one l = rw (digits-one n l) (false-and (eqb (digit n) 48))
 
-    large : (n < 10 → ⊥) → isNumeral (decimal n) ≡ true
-    large l =
-        let w : Digits 13 n (decimal n) = written 13 n h in
-        let e : eqb (getD (decimal n) 0 0) 48 ≡ false = ne-eqb (getD (decimal n) 0 0) 48 (w .leads (omega arith)) in
-        numeral-of (decimal n) (w .some) (w .short) (rw e) (w .digits)
-
-pub decimal-value : (n : ℕ) → n < limit → valueFrom 0 (decimal n) ≡ n
-decimal-value n h = written 13 n h .value
+    more : (n < 10 → ⊥) → (eqb (getD (decimal n) 0 0) 48 && ltb 1 (length (decimal n))) ≡ false
+    more l = rw (ne-eqb (getD (decimal n) 0 0) 48 (λ e. omega (arith, digits-nonzero n (omega arith))))
 
 -- Digits after a number a above 0 follow those of a.
-grow : (k a : ℕ) (t : List ℕ) → 0 < a → allWithin 48 57 t ≡ true → digitsOf (k + length t) (valueFrom a t) ≡ digitsOf k a ++ t
+grow : (a : ℕ) (t : List ℕ) → 0 < a → allWithin 48 57 t ≡ true → digits (valueFrom a t) ≡ digits a ++ t
 unfolding valueFrom allWithin
-grow k a [] p h = rw (add-zero k, append-nil)
-grow k a (x ∷ t) p h =
+grow a [] p h = rw append-nil
+grow a (x ∷ t) p h =
     let e : (within 48 57 x ≡ true) × (allWithin 48 57 t ≡ true) = and-both (within 48 57 x) (allWithin 48 57 t) h in
     let b : (48 ≤ x) × (x ≤ 57) = within-bounds 48 57 x (e .0) in
     let q : (a * 10 + (x - 48)) / 10 ≡ a = omega arith in
     let r : 48 + (a * 10 + (x - 48)) % 10 ≡ x = omega arith in
-    rw (
-      add-suc k (length t),
-      ← suc-add k (length t),
-      grow (suc k) (a * 10 + (x - 48)) t (omega arith) (e .1),
-      digits-more k (a * 10 + (x - 48)) (omega arith),
-      q,
-      r,
-      append-assoc,
-    )
-
--- more room for digits changes nothing
-room-step : (j n : ℕ) → n < 10 ^ suc j → digitsOf (suc j) n ≡ digitsOf j n
-room-step zero n h = digits-one 1 n h ∙ sym (digits-one 0 n h)
-room-step (suc i) n h = elim (decLt n 10) [ yes l ↦ small l | no l ↦ large (room-step i (n / 10) below) l ]
-  where
-    below : n / 10 < 10 ^ suc i
-    below = omega (arith, pow-suc 10 (suc i))
-
-    small : n < 10 → digitsOf (suc (suc i)) n ≡ digitsOf (suc i) n
-    small l = digits-one (suc (suc i)) n l ∙ sym (digits-one (suc i) n l)
-
-    large : digitsOf (suc i) (n / 10) ≡ digitsOf i (n / 10) → (n < 10 → ⊥) → digitsOf (suc (suc i)) n ≡ digitsOf (suc i) n
-    large e l =
-        let m : 10 ≤ n = omega arith in
-        rw (digits-more (suc i) n m, digits-more i n m, e)
-
-room : (j n m : ℕ) → n < 10 ^ suc j → digitsOf (j + m) n ≡ digitsOf j n
-room j n zero h = rw (add-zero j)
-room j n (suc m) h =
-    let k : n < 10 ^ suc (j + m) =
-    lt-of-lt-of-le h (pow-le-pow-right {n = 10} (lit< tt) {i = suc j} {j = suc (j + m)} (omega arith)) in
-    rw (add-suc j m) (room-step (j + m) n k ∙ room j n m h)
+    rw (grow (a * 10 + (x - 48)) t (omega arith) (e .1), digits-more (a * 10 + (x - 48)) (omega arith), q, r, append-assoc)
 
 value-bound : (a : ℕ) (t : List ℕ) → allWithin 48 57 t ≡ true → valueFrom a t < (a + 1) * 10 ^ length t
 unfolding valueFrom allWithin
@@ -213,39 +159,16 @@ several a d t e p l h k =
     let b : valueFrom a t < 10 ^ suc (length t) =
     rw (pow-suc 10 (length t))
     (omega (arith, value-bound a t h, mul-le-mul-right {m = a + 1} {n = 10} (10 ^ length t) (omega arith))) in
-    let w : length t + (13 - length t) ≡ 13 = omega arith in
-    let v : 48 + a % 10 ≡ d = omega arith in
-    let g : digitsOf (length t) (valueFrom a t) ≡ d ∷ t =
-    rw (zero-add (length t)) at (grow 0 a t p h) ∙ rw (digits-one 0 a l, v) in (
-      sym (rw (← w) (room (length t) (valueFrom a t) (13 - length t) b ∙ g)),
+    let v : 48 + a ≡ d = omega arith in (
+      sym (grow a t p h ∙ rw (digits-one a l, v)),
       lt-of-lt-of-le b (pow-le-pow-right {n = 10} (lit< tt) {i = suc (length t)} {j = 14} (omega arith)),
     )
 
 alone : (d : ℕ) → 48 ≤ d → d ≤ 57 → (d ∷ [] ≡ decimal (d - 48)) × (d - 48 < limit)
 alone d a b =
     let l : d - 48 < 10 = omega arith in
-    let v : 48 + (d - 48) % 10 ≡ d = omega arith in
-    (sym (digits-one 13 (d - 48) l ∙ rw v), omega arith)
-
--- what the test says
-record IsNumeral (t : List ℕ) : Type 0 where
-  some : 0 < length t
-  short : length t ≤ 14
-  leads : (eqb (getD t 0 0) 48 && ltb 1 (length t)) ≡ false
-  digits : allWithin 48 57 t ≡ true
-
-is-numeral : (t : List ℕ) → isNumeral t ≡ true → IsNumeral t
-unfolding isNumeral
-is-numeral t h =
-    let a = and-both (ltb 0 (length t) && leb (length t) 14 && not (eqb (getD t 0 0) 48 && ltb 1 (length t))) (allWithin 48 57 t) h in
-    let b = and-both (ltb 0 (length t) && leb (length t) 14) (not (eqb (getD t 0 0) 48 && ltb 1 (length t))) (a .0) in
-    let e = and-both (ltb 0 (length t)) (leb (length t) 14) (b .0) in
-    record {
-      some = ltb-true 0 (length t) (e .0);
-      short = leb-true (length t) 14 (e .1);
-      leads = not-true (eqb (getD t 0 0) 48 && ltb 1 (length t)) (b .1);
-      digits = a .1;
-    }
+    let v : 48 + (d - 48) ≡ d = omega arith in
+    (sym (digits-one (d - 48) l ∙ rw v), omega arith)
 
 pub numeral-decimal : (t : List ℕ) → isNumeral t ≡ true → (t ≡ decimal (valueFrom 0 t)) × (valueFrom 0 t < limit)
 unfolding valueFrom allWithin
@@ -264,20 +187,6 @@ numeral-decimal (d ∷ x ∷ t) h =
     omega arith in
     rw (zero-add (d - 48)) (several (d - 48) d (x ∷ t) (omega arith) (omega arith) (omega arith) (e .1) (omega arith))
 
-all-first : (d : ℕ) (t : List ℕ) → allWithin 48 57 (d ∷ t) ≡ true → within 48 57 d ≡ true
-unfolding allWithin
-all-first d t e = and-both (within 48 57 d) (allWithin 48 57 t) e .0
-
-pub decimal-digits : (n : ℕ) → n < limit → allWithin 48 57 (decimal n) ≡ true
-decimal-digits n h = written 13 n h .digits
-
 -- a D begins with a digit
-pub decimal-first : (n : ℕ) (r : List ℕ) → n < limit → 48 ≤ getD (decimal n ++ r) 0 0
-decimal-first n r h = first (decimal n) (written 13 n h .some) (written 13 n h .digits)
-  where
-    first : (t : List ℕ) → 0 < length t → allWithin 48 57 t ≡ true → 48 ≤ getD (t ++ r) 0 0
-    first [] p e = omega arith
-    first (d ∷ t) p e = within-bounds 48 57 d (all-first d t e) .0
-
-pub decimal-short : (n : ℕ) → n < limit → length (decimal n) ≤ 14
-decimal-short n h = written 13 n h .short
+pub decimal-first : (n : ℕ) (r : List ℕ) → 48 ≤ getD (decimal n ++ r) 0 0
+decimal-first n r = rw (List·getD-append (decimal n) r 0 0 (digits-some n)) (all-at (decimal n) 0 (decimal-digits n) (digits-some n) .0)

@@ -10,10 +10,9 @@ use Rattle.loan_charge.specs.declared.Score.{Score}
 use Rattle.loan_charge.specs.declared.Score.the-variants.{Scored, Unscored}
 use Rattle.exact.specs.Choice.{pick}
 use Rattle.line_forms.specs.Numerals.{decimal, signedText}
-use Rattle.line_forms.specs.Forms.{Field, number, signed, word, Form, field, end, Value, Values, Writable, AllWritable, fieldText, formText}
-use Rattle.line_forms.specs.Contents.{headerForm, headerValues, loanForm, loanValues, policyForm, policyValues, derivativeForm, derivativeValues, assetForm, assetValues, amountForm, amountValues, bytesOf, Written}
+use Rattle.line_forms.specs.Forms.{Field, number, signed, word, score, Form, field, end, Value, Values, FieldWritable, AllWritable, fieldText, formText, scoreText, ScoreWritable}
+use Rattle.line_forms.specs.Contents.{headerForm, headerValues, loanForm, loanValues, policyForm, policyValues, derivativeForm, derivativeValues, assetForm, assetValues, amountForm, amountValues, bytesOf, Writable}
 use Rattle.fixed_point.specs.declared.Signed.{Signed}
-use Rattle.line_forms.specs.declared.Loan.{Loan}
 use Rattle.line_forms.specs.declared.Item.{Item}
 use Rattle.line_forms.specs.declared.Item.the-variants.{Claims, Lossc, Stated, Equity, Aoci, B, C}
 use Rattle.line_forms.specs.declared.Content.{Content}
@@ -34,12 +33,13 @@ abbrev fieldSize : Field → ℕ
 fieldSize number = 14
 fieldSize signed = 15
 fieldSize (word choices) = longest choices
+fieldSize score = 29
 
 abbrev formSize : Form → ℕ
 formSize (field t k f) = length t + (fieldSize k + formSize f)
 formSize (end t) = length t
 
-signed-size : (n : Signed) → Writable signed n → length (signedText n) ≤ 15
+signed-size : (n : Signed) → FieldWritable signed n → length (signedText n) ≤ 15
 unfolding signedText
 signed-size n w = go (eqb (n .minus) 0)
   where
@@ -47,10 +47,16 @@ signed-size n w = go (eqb (n .minus) 0)
     go true = omega (arith, decimal-short (n .plus) (w .0))
     go false = omega (arith, decimal-short (n .minus) (w .1))
 
-field-size : (k : Field) (v : Value k) → Writable k v → length (fieldText k v) ≤ fieldSize k
+score-size : (q : Score) → ScoreWritable q → length (scoreText q) ≤ 29
+score-size (Scored n age) w =
+    omega (arith, length-append (decimal n) (32 ∷ decimal age), decimal-short n (w .0), decimal-short age (w .1))
+score-size Unscored w = omega arith
+
+field-size : (k : Field) (v : Value k) → FieldWritable k v → length (fieldText k v) ≤ fieldSize k
 field-size number v w = decimal-short v w
 field-size signed v w = signed-size v w
 field-size (word choices) v w = word-size choices v
+field-size score v w = score-size v w
 
 form-size : (f : Form) (v : Values f) → AllWritable f v → length (formText f v) ≤ formSize f
 form-size (field t k f) v w =
@@ -63,10 +69,6 @@ form-size (field t k f) v w =
     )
 form-size (end t) v w = omega arith
 
-loan-size : (q : Score) (l : Loan) → AllWritable (loanForm q) (loanValues q l) → length (formText (loanForm q) (loanValues q l)) ≤ 152
-loan-size (Scored n age) l w = le-trans (form-size (loanForm (Scored n age)) (loanValues (Scored n age) l) w) (lit≤ tt)
-loan-size Unscored l w = le-trans (form-size (loanForm Unscored) (loanValues Unscored l) w) (lit≤ tt)
-
 amount-bound : (i : Item) → formSize (amountForm i) ≤ 152
 amount-bound Claims = lit≤ tt
 amount-bound Lossc = lit≤ tt
@@ -76,10 +78,10 @@ amount-bound Aoci = lit≤ tt
 amount-bound B = lit≤ tt
 amount-bound C = lit≤ tt
 
-pub content-size : (c : Content) → Written c → length (bytesOf c) ≤ 152
+pub content-size : (c : Content) → Writable c → length (bytesOf c) ≤ 152
 unfolding bytesOf
 content-size (header h) w = le-trans (form-size headerForm (headerValues h) w) (lit≤ tt)
-content-size (loan l) w = loan-size (l .score) l w
+content-size (loan l) w = le-trans (form-size loanForm (loanValues l) w) (lit≤ tt)
 content-size (policy p) w = le-trans (form-size policyForm (policyValues p) w) (lit≤ tt)
 content-size (derivative d) w = le-trans (form-size derivativeForm (derivativeValues d) w) (lit≤ tt)
 content-size (asset a) w = le-trans (form-size assetForm (assetValues a) w) (lit≤ tt)

@@ -30,7 +30,10 @@ same (x ∷ s) (y ∷ t) = eqb x y && same s t
 abbrev pub past : List ℕ → ℕ
 past s = length s + 1
 
+-- whether the text t stands at a position
+abbrev pub standsAt : List ℕ → ℕ → List ℕ → Bool
+standsAt s at t = leb (at + length t) (length s) && same (take (length t) (drop at s)) t
+
 -- the position after the text t, where t stands at `at`
 unfoldable pub after : List ℕ → ℕ → List ℕ → ℕ
-after s at t =
-    pick (leb (at + length t) (length s) && same (take (length t) (drop at s)) t) (at + length t) (past s)
+after s at t = pick (standsAt s at t) (at + length t) (past s)

@@ -5,8 +5,8 @@ use mathlib.Core.List.{List}
 use mathlib.Core.Logic.{_↔_, _⊎_}
 use mathlib.Core.Path.{_≡_}
 use lib.ListN.{length}
-use Rattle.line_forms.specs.Contents.{bytesOf, Written, inRange}
-use Rattle.line_forms.specs.Readings.{lineOf, headerOf, contentOf}
+use Rattle.line_forms.specs.Contents.{bytesOf, Writable, inRange}
+use Rattle.line_forms.specs.Readings.{longestLine, headerOf, contentOf}
 use Rattle.line_forms.specs.declared.Header.{Header}
 use Rattle.line_forms.specs.declared.Content.{Content}
 use Rattle.line_forms.specs.declared.Content.the-variants.{Header as header, Loan as loan, Policy as policy, Derivative as derivative, Asset as asset, Amount as amount, NoForm}
@@ -35,53 +35,58 @@ lineWith (asset a) = AssetLine a
 lineWith (amount a) = AmountLine a
 lineWith NoForm = Refusal 2
 
--- the number of an answer's refusal, 0 where the line is accepted
-abbrev pub refusalOf : Line → ℕ
-refusalOf (LoanLine l) = 0
-refusalOf (PolicyLine p) = 0
-refusalOf (DerivativeLine d) = 0
-refusalOf (AssetLine a) = 0
-refusalOf (AmountLine a) = 0
-refusalOf (Refusal n) = n
+-- 01: "If an answer is an enum, a definition gives this paper's number and values for each of its cases. The promises use this definition."
+-- These are the definitions for line reading's and header reading's answers: the number of the refusal, 0 where the line is accepted, ..
+abbrev pub lineRefusal : Line → ℕ
+lineRefusal (LoanLine l) = 0
+lineRefusal (PolicyLine p) = 0
+lineRefusal (DerivativeLine d) = 0
+lineRefusal (AssetLine a) = 0
+lineRefusal (AmountLine a) = 0
+lineRefusal (Refusal n) = n
 
--- what an answer holds
-abbrev pub heldBy : Line → Content
-heldBy (LoanLine l) = loan l
-heldBy (PolicyLine p) = policy p
-heldBy (DerivativeLine d) = derivative d
-heldBy (AssetLine a) = asset a
-heldBy (AmountLine a) = amount a
-heldBy (Refusal n) = NoForm
+abbrev pub headerRefusal : HeaderLine → ℕ
+headerRefusal (HeaderRead h) = 0
+headerRefusal (HeaderRefusal n) = n
 
-abbrev pub headerRefusalOf : HeaderLine → ℕ
-headerRefusalOf (HeaderRead h) = 0
-headerRefusalOf (HeaderRefusal n) = n
+-- .. and the values of an accepted line.
+abbrev pub lineContent : Line → Content
+lineContent (LoanLine l) = loan l
+lineContent (PolicyLine p) = policy p
+lineContent (DerivativeLine d) = derivative d
+lineContent (AssetLine a) = asset a
+lineContent (AmountLine a) = amount a
+lineContent (Refusal n) = NoForm
+
+abbrev pub headerContent : HeaderLine → Content
+headerContent (HeaderRead h) = header h
+headerContent (HeaderRefusal n) = NoForm
 
 -- a line that is no form's bytes
 abbrev pub NoBytes : List ℕ → Type 0
-NoBytes s = (c : Content) → Written c → s ≡ bytesOf c → ⊥
+NoBytes s = (c : Content) → Writable c → s ≡ bytesOf c → ⊥
 
--- the answers for a line after the header
-pub record LineReading (s : List ℕ) : Type 0 where
-  pub accepted : (c : Content) → AfterHeader c → (lineOf s ≡ lineWith c) ↔ (Written c × (inRange c ≡ true) × (s ≡ bytesOf c))
-  pub refused1 : (lineOf s ≡ Refusal 1) ↔ (240 < length s)
-  pub refused2 : (lineOf s ≡ Refusal 2) ↔ ((length s ≤ 240) × NoBytes s)
-  pub refused7 : (lineOf s ≡ Refusal 7) ↔ ((h : Header) × Written (header h) × (s ≡ bytesOf (header h)))
-  pub refused3 : (lineOf s ≡ Refusal 3) ↔ ((c : Content) × AfterHeader c × Written c × (inRange c ≡ false) × (s ≡ bytesOf c))
-  pub numbers : (n : ℕ) → lineOf s ≡ Refusal n → (n ≡ 1) ⊎ (n ≡ 2) ⊎ (n ≡ 7) ⊎ (n ≡ 3)
+-- what the answer r for a line s after the header says of the line
+pub record LineReading (s : List ℕ) (r : Line) : Type 0 where
+  pub accepted : (c : Content) → AfterHeader c → ((lineRefusal r ≡ 0) × (lineContent r ≡ c)) ↔ (Writable c × (inRange c ≡ true) × (s ≡ bytesOf c))
+  pub refused1 : (lineRefusal r ≡ 1) ↔ (longestLine < length s)
+  pub refused2 : (lineRefusal r ≡ 2) ↔ ((length s ≤ longestLine) × NoBytes s)
+  pub refused7 : (lineRefusal r ≡ 7) ↔ ((h : Header) × Writable (header h) × (s ≡ bytesOf (header h)))
+  pub refused3 : (lineRefusal r ≡ 3) ↔ ((c : Content) × AfterHeader c × Writable c × (inRange c ≡ false) × (s ≡ bytesOf c))
+  pub numbers : (AfterHeader (lineContent r) × (lineRefusal r ≡ 0)) ⊎ (lineRefusal r ≡ 1) ⊎ (lineRefusal r ≡ 2) ⊎ (lineRefusal r ≡ 7) ⊎ (lineRefusal r ≡ 3)
 
--- the answers for a header line
-pub record HeaderReading (s : List ℕ) : Type 0 where
-  pub accepted : (h : Header) → (headerOf s ≡ HeaderRead h) ↔ (Written (header h) × (inRange (header h) ≡ true) × (h .unscored ≤ h .loans) × (s ≡ bytesOf (header h)))
-  pub refused1 : (headerOf s ≡ HeaderRefusal 1) ↔ (240 < length s)
-  pub refused2 : (headerOf s ≡ HeaderRefusal 2) ↔ ((length s ≤ 240) × NoBytes s)
-  pub refused7 : (headerOf s ≡ HeaderRefusal 7) ↔ ((c : Content) × AfterHeader c × Written c × (s ≡ bytesOf c))
-  pub refused3 : (headerOf s ≡ HeaderRefusal 3) ↔ ((h : Header) × Written (header h) × (inRange (header h) ≡ false) × (s ≡ bytesOf (header h)))
-  pub refused4 : (headerOf s ≡ HeaderRefusal 4) ↔ ((h : Header) × Written (header h) × (inRange (header h) ≡ true) × (h .loans < h .unscored) × (s ≡ bytesOf (header h)))
-  pub numbers : (n : ℕ) → headerOf s ≡ HeaderRefusal n → (n ≡ 1) ⊎ (n ≡ 2) ⊎ (n ≡ 7) ⊎ (n ≡ 3) ⊎ (n ≡ 4)
+-- what the answer r for a header line s says of it
+pub record HeaderReading (s : List ℕ) (r : HeaderLine) : Type 0 where
+  pub accepted : (h : Header) → ((headerRefusal r ≡ 0) × (headerContent r ≡ header h)) ↔ (Writable (header h) × (inRange (header h) ≡ true) × (h .unscored ≤ h .loans) × (s ≡ bytesOf (header h)))
+  pub refused1 : (headerRefusal r ≡ 1) ↔ (longestLine < length s)
+  pub refused2 : (headerRefusal r ≡ 2) ↔ ((length s ≤ longestLine) × NoBytes s)
+  pub refused7 : (headerRefusal r ≡ 7) ↔ ((c : Content) × AfterHeader c × Writable c × (s ≡ bytesOf c))
+  pub refused3 : (headerRefusal r ≡ 3) ↔ ((h : Header) × Writable (header h) × (inRange (header h) ≡ false) × (s ≡ bytesOf (header h)))
+  pub refused4 : (headerRefusal r ≡ 4) ↔ ((h : Header) × Writable (header h) × (inRange (header h) ≡ true) × (h .loans < h .unscored) × (s ≡ bytesOf (header h)))
+  pub numbers : ((h : Header) × (headerContent r ≡ header h) × (headerRefusal r ≡ 0)) ⊎ (headerRefusal r ≡ 1) ⊎ (headerRefusal r ≡ 2) ⊎ (headerRefusal r ≡ 7) ⊎ (headerRefusal r ≡ 3) ⊎ (headerRefusal r ≡ 4)
 
 -- No form is longer than 152 bytes, so refusal 1 meets none; its bytes give the data back; and a header in its ranges can be written.
 pub record BytesRead : Type 0 where
-  pub short : (c : Content) → Written c → length (bytesOf c) ≤ 152
-  pub back : (c : Content) → Written c → contentOf (bytesOf c) ≡ c
+  pub short : (c : Content) → Writable c → length (bytesOf c) ≤ 152
+  pub back : (c : Content) → Writable c → contentOf (bytesOf c) ≡ c
   pub header-back : (h : Header) → inRange (header h) ≡ true → h .unscored ≤ h .loans → headerOf (bytesOf (header h)) ≡ HeaderRead h

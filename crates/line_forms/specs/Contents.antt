@@ -1,14 +1,14 @@
 -- 01, "A book, line by line": each form as it is shown there, its data, and its ranges with both ends.
 use Prim.Native.Nat.{ℕ}
 use mathlib.Core.Bool.{Bool, true, false, _&&_}
-use mathlib.Core.List.{List, [], _∷_}
+use mathlib.Core.List.{List, []}
 use mathlib.Core.Path.{_≡_}
 use Rattle.loan_charge.specs.declared.Score.{Score}
 use Rattle.loan_charge.specs.declared.Score.the-variants.{Scored, Unscored}
 use Rattle.exact.specs.Text.{text}
 use Rattle.exact.specs.Choice.{pick}
-use Rattle.line_forms.specs.Bytes.{within, same}
-use Rattle.line_forms.specs.Forms.{Form, field, end, number, signed, word, Values, AllWritable, formText}
+use Rattle.line_forms.specs.Bytes.{within}
+use Rattle.line_forms.specs.Forms.{choicesOf, Form, field, end, number, signed, word, score, Values, AllWritable, formText}
 use Rattle.fixed_point.specs.declared.Signed.{Signed}
 use Rattle.line_forms.specs.declared.Header.{Header}
 use Rattle.line_forms.specs.declared.Loan.{Loan}
@@ -29,7 +29,7 @@ use Rattle.line_forms.specs.declared.Content.the-variants.{Header as hea
 
 -- (book (loans D) (unscored D) (scores fresh|aged) (held D))
 abbrev pub scores : List (List ℕ)
-scores = text "fresh" ∷ text "aged" ∷ []
+scores = choicesOf (text "fresh|aged")
 
 abbrev pub headerForm : Form
 headerForm =
@@ -52,36 +52,19 @@ onAgedTable h = h .aged
 
 -- Loans.
 
--- (loan (bal D) (val D) (amort D) (term D) (score D D) (sup D))
-abbrev pub scoredLoan : Form
-scoredLoan =
+-- (loan (bal D) (val D) (amort D) (term D) (score D D) (sup D)), or (score none)
+abbrev pub loanForm : Form
+loanForm =
     field (text "(loan (bal ") number
     (field (text ") (val ") number
     (field (text ") (amort ") number
     (field (text ") (term ") number
-    (field (text ") (score ") number
-    (field (text " ") number
+    (field (text ") (score ") score
     (field (text ") (sup ") number
-    (end (text "))"))))))))
+    (end (text "))")))))))
 
--- the same with (score none)
-abbrev pub unscoredLoan : Form
-unscoredLoan =
-    field (text "(loan (bal ") number
-    (field (text ") (val ") number
-    (field (text ") (amort ") number
-    (field (text ") (term ") number
-    (field (text ") (score none) (sup ") number
-    (end (text "))"))))))
-
-abbrev pub loanForm : Score → Form
-loanForm (Scored n age) = scoredLoan
-loanForm Unscored = unscoredLoan
-
-abbrev pub loanValues : (q : Score) → Loan → Values (loanForm q)
-loanValues (Scored n age) l =
-    (l .balance, (l .value, (l .amortization, (l .term, (n, (age, (l .supplement, tt)))))))
-loanValues Unscored l = (l .balance, (l .value, (l .amortization, (l .term, (l .supplement, tt)))))
+abbrev pub loanValues : Loan → Values loanForm
+loanValues l = (l .balance, (l .value, (l .amortization, (l .term, (l .score, (l .supplement, tt))))))
 
 unfoldable pub scoreInRange : Score → Bool
 scoreInRange (Scored n age) = within 300 900 n && within 0 600 age
@@ -96,7 +79,7 @@ loanInRange l =
 
 -- (policy (class home|multi) (prem D) (term D) (done D))
 abbrev pub classes : List (List ℕ)
-classes = text "home" ∷ text "multi" ∷ []
+classes = choicesOf (text "home|multi")
 
 abbrev pub classPlace : Class → ℕ
 classPlace Home = 0
@@ -124,7 +107,7 @@ moneyInRange n = within 0 100000000000 (n .plus) && within 0 100000000000 (n .mi
 
 -- (deriv (kind rate|float|fx|equity|metal|other) (cost S) (notional D) (months D) (pays D) (factor D))
 abbrev pub kinds : List (List ℕ)
-kinds = text "rate" ∷ text "float" ∷ text "fx" ∷ text "equity" ∷ text "metal" ∷ text "other" ∷ []
+kinds = choicesOf (text "rate|float|fx|equity|metal|other")
 
 abbrev pub kindPlace : Kind → ℕ
 kindPlace Rate = 0
@@ -200,7 +183,7 @@ amountInRange a = moneyInRange (a .amount)
 
 abbrev pub formFor : Content → Form
 formFor (header h) = headerForm
-formFor (loan l) = loanForm (l .score)
+formFor (loan l) = loanForm
 formFor (policy p) = policyForm
 formFor (derivative d) = derivativeForm
 formFor (asset a) = assetForm
@@ -209,7 +192,7 @@ formFor NoForm = end []
 
 abbrev pub valuesFor : (c : Content) → Values (formFor c)
 valuesFor (header h) = headerValues h
-valuesFor (loan l) = loanValues (l .score) l
+valuesFor (loan l) = loanValues l
 valuesFor (policy p) = policyValues p
 valuesFor (derivative d) = derivativeValues d
 valuesFor (asset a) = assetValues a
@@ -231,14 +214,14 @@ SignFits B n = n .minus ≡ 0
 SignFits C n = n .minus ≡ 0
 
 -- each number is one that its D or S can write
-abbrev pub Written : Content → Type 0
-Written (header h) = AllWritable headerForm (headerValues h)
-Written (loan l) = AllWritable (loanForm (l .score)) (loanValues (l .score) l)
-Written (policy p) = AllWritable policyForm (policyValues p)
-Written (derivative d) = AllWritable derivativeForm (derivativeValues d)
-Written (asset a) = AllWritable assetForm (assetValues a)
-Written (amount a) = AllWritable (amountForm (a .item)) (amountValues (a .item) (a .amount)) × SignFits (a .item) (a .amount)
-Written NoForm = ⊥
+abbrev pub Writable : Content → Type 0
+Writable (header h) = AllWritable headerForm (headerValues h)
+Writable (loan l) = AllWritable loanForm (loanValues l)
+Writable (policy p) = AllWritable policyForm (policyValues p)
+Writable (derivative d) = AllWritable derivativeForm (derivativeValues d)
+Writable (asset a) = AllWritable assetForm (assetValues a)
+Writable (amount a) = AllWritable (amountForm (a .item)) (amountValues (a .item) (a .amount)) × SignFits (a .item) (a .amount)
+Writable NoForm = ⊥
 
 unfoldable pub inRange : Content → Bool
 inRange (header h) = headerInRange h

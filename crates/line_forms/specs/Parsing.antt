@@ -5,10 +5,13 @@ use mathlib.Core.List.{List, [], _∷_}
 use lib.Dec.{ltb, eqb}
 use lib.ListN.{length, drop, getD}
 use Rattle.exact.specs.Choice.{pick}
+use Rattle.exact.specs.Text.{text}
 use Rattle.line_forms.specs.Bytes.{past, after, runOf, same}
-use Rattle.line_forms.specs.Forms.{Field, number, signed, word, Form, field, end, Value, Values}
+use Rattle.line_forms.specs.Forms.{Field, number, signed, word, score, Form, field, end, Value, Values}
 use Rattle.line_forms.specs.Numerals.{isNumeral, valueFrom}
 use Rattle.fixed_point.specs.declared.Signed.{Signed}
+use Rattle.loan_charge.specs.declared.Score.{Score}
+use Rattle.loan_charge.specs.declared.Score.the-variants.{Scored, Unscored}
 
 -- the digits from a position on
 abbrev pub digitsAt : List ℕ → ℕ → List ℕ
@@ -50,15 +53,31 @@ unfoldable pub afterWord : List (List ℕ) → List ℕ → ℕ → ℕ
 afterWord choices s at =
     pick (ltb (placeOf (lettersAt s at) choices) (length choices)) (at + length (lettersAt s at)) (past s)
 
+-- whether the word `none` stands at a position, in place of a score
+abbrev pub noneAt : List ℕ → ℕ → Bool
+noneAt s at = same (lettersAt s at) (text "none")
+
+-- the position of a score's age
+abbrev pub ageAfter : List ℕ → ℕ → ℕ
+ageAfter s at = after s (afterNumber s at) (text " ")
+
+unfoldable pub scoreAt : List ℕ → ℕ → Score
+scoreAt s at = pick (noneAt s at) Unscored (Scored (numberAt s at) (numberAt s (ageAfter s at)))
+
+unfoldable pub afterScore : List ℕ → ℕ → ℕ
+afterScore s at = pick (noneAt s at) (at + length (lettersAt s at)) (afterNumber s (ageAfter s at))
+
 abbrev pub fieldAt : (k : Field) → List ℕ → ℕ → Value k
 fieldAt number s at = numberAt s at
 fieldAt signed s at = signedAt s at
 fieldAt (word choices) s at = placeOf (lettersAt s at) choices
+fieldAt score s at = scoreAt s at
 
 abbrev pub afterField : Field → List ℕ → ℕ → ℕ
 afterField number s at = afterNumber s at
 afterField signed s at = afterSigned s at
 afterField (word choices) s at = afterWord choices s at
+afterField score s at = afterScore s at
 
 abbrev pub valuesAt : (f : Form) → List ℕ → ℕ → Values f
 valuesAt (field t k f) s at =

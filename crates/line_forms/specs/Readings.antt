@@ -3,13 +3,11 @@ use Prim.Native.Nat.{ℕ}
 use mathlib.Core.List.{List}
 use lib.Dec.{ltb, eqb}
 use lib.ListN.{length}
-use Rattle.loan_charge.specs.declared.Score.the-variants.{Scored, Unscored}
 use Rattle.exact.specs.Text.{text}
 use Rattle.exact.specs.Choice.{pick}
-use Rattle.line_forms.specs.Bytes.{same}
-use Rattle.line_forms.specs.Forms.{Values}
-use Rattle.line_forms.specs.Parsing.{valuesAt, hasForm, lettersAt}
-use Rattle.line_forms.specs.Contents.{headerForm, headerInRange, scoredLoan, unscoredLoan, loanInRange, policyForm, policyInRange, derivativeForm, derivativeInRange, assetForm, assetInRange, plainForm, signedForm, amountInRange}
+use Rattle.line_forms.specs.Forms.{Values, choicesOf}
+use Rattle.line_forms.specs.Parsing.{valuesAt, hasForm, lettersAt, placeOf}
+use Rattle.line_forms.specs.Contents.{headerForm, headerInRange, loanForm, loanInRange, policyForm, policyInRange, derivativeForm, derivativeInRange, assetForm, assetInRange, plainForm, signedForm, amountInRange}
 use Rattle.fixed_point.specs.declared.Signed.{Signed}
 use Rattle.line_forms.specs.declared.Header.{Header}
 use Rattle.line_forms.specs.declared.Loan.{Loan}
@@ -39,24 +37,14 @@ headerWith v = record {
   held = v .1 .1 .1 .0;
 }
 
-abbrev pub scoredLoanWith : Values scoredLoan → Loan
-scoredLoanWith v = record {
+abbrev pub loanWith : Values loanForm → Loan
+loanWith v = record {
   balance = v .0;
   value = v .1 .0;
   amortization = v .1 .1 .0;
   term = v .1 .1 .1 .0;
-  score = Scored (v .1 .1 .1 .1 .0) (v .1 .1 .1 .1 .1 .0);
-  supplement = v .1 .1 .1 .1 .1 .1 .0;
-}
-
-abbrev pub unscoredLoanWith : Values unscoredLoan → Loan
-unscoredLoanWith v = record {
-  balance = v .0;
-  value = v .1 .0;
-  amortization = v .1 .1 .0;
-  term = v .1 .1 .1 .0;
-  score = Unscored;
-  supplement = v .1 .1 .1 .1 .0;
+  score = v .1 .1 .1 .1 .0;
+  supplement = v .1 .1 .1 .1 .1 .0;
 }
 
 abbrev pub classAt : ℕ → Class
@@ -98,9 +86,7 @@ unfoldable pub headerHeld : List ℕ → Content
 headerHeld s = pick (hasForm headerForm s) (header (headerWith (valuesAt headerForm s 0))) NoForm
 
 unfoldable pub loanHeld : List ℕ → Content
-loanHeld s =
-    pick (hasForm scoredLoan s) (loan (scoredLoanWith (valuesAt scoredLoan s 0)))
-    (pick (hasForm unscoredLoan s) (loan (unscoredLoanWith (valuesAt unscoredLoan s 0))) NoForm)
+loanHeld s = pick (hasForm loanForm s) (loan (loanWith (valuesAt loanForm s 0))) NoForm
 
 unfoldable pub policyHeld : List ℕ → Content
 policyHeld s = pick (hasForm policyForm s) (policy (policyWith (valuesAt policyForm s 0))) NoForm
@@ -122,25 +108,33 @@ unfoldable pub signedHeld : Item → List ℕ → List ℕ → Content
 signedHeld i t s =
     pick (hasForm (signedForm t) s) (amount (record { item = i; amount = valuesAt (signedForm t) s 0 .0 })) NoForm
 
--- the same by the form's name
-unfoldable pub amountHeld : List ℕ → List ℕ → Content
-amountHeld name s =
-    pick (same name (text "claims")) (plainHeld Claims (text "(claims ") s)
-    (pick (same name (text "lossc")) (plainHeld Lossc (text "(lossc ") s)
-    (pick (same name (text "stated")) (plainHeld Stated (text "(stated ") s)
-    (pick (same name (text "equity")) (signedHeld Equity (text "(equity ") s)
-    (pick (same name (text "aoci")) (signedHeld Aoci (text "(aoci ") s)
-    (pick (same name (text "b")) (plainHeld B (text "(b ") s)
-    (pick (same name (text "c")) (plainHeld C (text "(c ") s) NoForm))))))
+-- the name of each form, after its opening bracket
+abbrev pub names : List (List ℕ)
+names = choicesOf (text "loan|policy|deriv|asset|book|claims|lossc|stated|equity|aoci|b|c")
 
--- What a line holds. A form's name stands after the opening bracket.
+-- an amount by the place of its name
+unfoldable pub amountHeld : ℕ → List ℕ → Content
+amountHeld name s =
+    pick (eqb name 5) (plainHeld Claims (text "(claims ") s)
+    (pick (eqb name 6) (plainHeld Lossc (text "(lossc ") s)
+    (pick (eqb name 7) (plainHeld Stated (text "(stated ") s)
+    (pick (eqb name 8) (signedHeld Equity (text "(equity ") s)
+    (pick (eqb name 9) (signedHeld Aoci (text "(aoci ") s)
+    (pick (eqb name 10) (plainHeld B (text "(b ") s)
+    (pick (eqb name 11) (plainHeld C (text "(c ") s) NoForm))))))
+
+-- what a line holds by the place of its name
+abbrev pub heldAs : ℕ → List ℕ → Content
+heldAs name s =
+    pick (eqb name 0) (loanHeld s)
+    (pick (eqb name 1) (policyHeld s)
+    (pick (eqb name 2) (derivativeHeld s)
+    (pick (eqb name 3) (assetHeld s)
+    (pick (eqb name 4) (headerHeld s) (amountHeld name s)))))
+
+-- What a line holds.
 unfoldable pub contentOf : List ℕ → Content
-contentOf s =
-    pick (same (lettersAt s 1) (text "loan")) (loanHeld s)
-    (pick (same (lettersAt s 1) (text "policy")) (policyHeld s)
-    (pick (same (lettersAt s 1) (text "deriv")) (derivativeHeld s)
-    (pick (same (lettersAt s 1) (text "asset")) (assetHeld s)
-    (pick (same (lettersAt s 1) (text "book")) (headerHeld s) (amountHeld (lettersAt s 1) s)))))
+contentOf s = heldAs (placeOf (lettersAt s 1) names) s
 
 -- The answer for what a line after the header holds: the number of 01's refusal, or the line's values (01, "Who can be turned down").
 unfoldable pub lineFor : Content → Line
@@ -152,9 +146,13 @@ lineFor (derivative d) = pick (derivativeInRange d) (DerivativeLine d) (Refusal 
 lineFor (asset a) = pick (assetInRange a) (AssetLine a) (Refusal 3)
 lineFor (amount a) = pick (amountInRange a) (AmountLine a) (Refusal 3)
 
+-- 01: "A line is at most 240 bytes, without its newline."
+abbrev pub longestLine : ℕ
+longestLine = 240
+
 -- Feeding tests 1, 2, 7, 3.
 unfoldable pub lineOf : List ℕ → Line
-lineOf s = pick (ltb 240 (length s)) (Refusal 1) (lineFor (contentOf s))
+lineOf s = pick (ltb longestLine (length s)) (Refusal 1) (lineFor (contentOf s))
 
 -- The answer for what a header line holds.
 unfoldable pub headerFor : Content → HeaderLine
@@ -169,4 +167,4 @@ headerFor (header h) =
 
 -- Opening tests 1, 2, 7, 3, 4.
 unfoldable pub headerOf : List ℕ → HeaderLine
-headerOf s = pick (ltb 240 (length s)) (HeaderRefusal 1) (headerFor (contentOf s))
+headerOf s = pick (ltb longestLine (length s)) (HeaderRefusal 1) (headerFor (contentOf s))

@@ -6,11 +6,8 @@ ghost use Rattle.line_forms.specs.Contents.{onAgedTable};
 use fixed_point::Signed;
 use loan_charge::Score;
 
-// A part of a line read as a D.
-pub enum Number {
-    Value(u64),
-    Missing,
-}
+// A longer line is refused as 1.
+pub const LONGEST_LINE: usize = 240;
 
 // The counts of loans and of loans without a score, whether the aged table serves, and the liabilities held for home loans in cents.
 pub struct Header {

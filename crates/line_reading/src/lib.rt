@@ -1,13 +1,12 @@
 // From what a line holds to the line that was read, or to the refusals that need only the line (01, "A book, line by line").
 ghost use mathlib.Core.Path.{_≡_};
+ghost use Rattle.line_forms.specs.Claims.{LineReading, HeaderReading};
 ghost use Rattle.line_forms.specs.Readings.{lineOf, lineFor, headerOf, headerFor};
 use line_forms::Content;
 use line_forms::HeaderLine;
+use line_forms::LONGEST_LINE;
 use line_forms::Line;
 use line_forms::ranges;
-
-// A longer line is refused as 1.
-const LONGEST: usize = 240;
 
 fn line_for(c: Content) -> Line
     ensures { λ r. ⌜ r ≡ lineFor c ⌝ }
@@ -55,9 +54,10 @@ fn line_for(c: Content) -> Line
 
 // A line after the header.
 pub fn read_line(line: &[u8]) -> Line
-    ensures { λ r. ⌜ r ≡ lineOf (now (line .entry)) ⌝ }
+    ensures equation { λ r. ⌜ r ≡ lineOf (now (line .entry)) ⌝ }
+    ensures reading { λ r. ⌜ LineReading (now (line .entry)) r ⌝ }
 {
-    if LONGEST < line.len() {
+    if LONGEST_LINE < line.len() {
         return Line::Refusal(1);
     }
     line_for(line_contents::content(line))
@@ -87,9 +87,10 @@ fn header_for(c: Content) -> HeaderLine
 
 // The line that opens a book.
 pub fn read_header(line: &[u8]) -> HeaderLine
-    ensures { λ r. ⌜ r ≡ headerOf (now (line .entry)) ⌝ }
+    ensures equation { λ r. ⌜ r ≡ headerOf (now (line .entry)) ⌝ }
+    ensures reading { λ r. ⌜ HeaderReading (now (line .entry)) r ⌝ }
 {
-    if LONGEST < line.len() {
+    if LONGEST_LINE < line.len() {
         return HeaderLine::Refusal(1);
     }
     header_for(line_contents::content(line))

@@ -9,11 +9,6 @@ use lib.ListN.{length, take, drop, getD, set, length-append, length-take, length
 use lib.Seq.{drop-cons, set-at, take-suc, drop-drop, take-at, drop-at, take-length, drop-length, length-take-le}
 use Rattle.report.specs.Line.{onto, Written, Added}
 
--- a buffer keeps its length
-pub onto-length : (old t : List ℕ) → length t ≤ length old → length (onto old t) ≡ length old
-unfolding onto
-onto-length old t h = simp (length-append, length-drop) (omega arith)
-
 -- one more byte
 pub onto-byte : (old t : List ℕ) (b : ℕ) → length t < length old → set (onto old t) (length t) b ≡ onto old (t ++ (b ∷ []))
 unfolding onto

@@ -1,37 +1,15 @@
--- Numbers as decimal text: 01, "its numbers written as S but with as many digits as they need".
-use Prim.Native.Nat.{ℕ, zero, suc, _+_, _*_, _-_, _/_, _%_}
-use mathlib.Core.List.{List, [], _∷_, _++_}
+-- Numbers as text: 01, "its numbers written as S but with as many digits as they need".
+use Prim.Native.Nat.{ℕ, _-_}
+use mathlib.Core.List.{List, _++_}
 use Rattle.exact.specs.Choice.{pick}
 use Rattle.exact.specs.Text.{text}
+pub use Rattle.exact.specs.Decimal.{digit, valueOf}
+unfoldable pub use Rattle.exact.specs.Decimal.{leading, digits, valueFrom}
 use lib.Dec.{ltb}
 use Rattle.fixed_point.specs.declared.Signed.{Signed}
-
--- the byte of a digit
-abbrev pub digit : ℕ → ℕ
-digit d = 48 + d
-
--- the digits of n, but none for 0; at most k of them
-unfoldable pub leading : ℕ → ℕ → List ℕ
-leading zero n = []
-leading (suc k) zero = []
-leading (suc k) (suc m) = leading k (suc m / 10) ++ (digit (suc m % 10) ∷ [])
-
--- the decimal digits of n, without a leading zero; n bounds how many stand before the last
-unfoldable pub digits : ℕ → List ℕ
-unfolding leading
-digits n = leading n (n / 10) ++ (digit (n % 10) ∷ [])
 
 -- 01, S: the digits, after a minus sign where the number is below 0
 unfoldable pub signed : Signed → List ℕ
 unfolding digits
 signed v =
     pick (ltb (v .plus) (v .minus)) (text "-" ++ digits (v .minus - v .plus)) (digits (v .plus - v .minus))
-
--- the number that digits after the number a write
-unfoldable pub valueFrom : ℕ → List ℕ → ℕ
-valueFrom a [] = a
-valueFrom a (d ∷ t) = valueFrom (a * 10 + (d - 48)) t
-
--- the number that digits write
-abbrev pub valueOf : List ℕ → ℕ
-valueOf t = valueFrom 0 t

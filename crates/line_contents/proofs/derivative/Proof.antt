@@ -1,38 +1,62 @@
 -- `derivative` meets its contract.
-use borrow.Author.Needs.{needs}
 use borrow.Author.Tests.{eq-eqb, ne-eqb}
 use Rattle.line_forms.specs.Readings.{derivativeHeld}
+use borrow.Author.Needs.{needs}
 use Rattle.line_contents.proofs.derivative.Statement.{statement}
 use Rattle.line_contents.proofs.derivative.Tie as tie
 
 returns : tie.Need-returns
 unfolding derivativeHeld
 returns c =
-    let n1 = c .before .before .before .before .before .before .before .before .before .before .before .before .before .before .before .kind-after in
+    let n1 = c .before .before .before .before .before .before .before .before .before .before .before .before .before .before .before .word-after in
     let n2 = c .before .before .before .before .before .before .before .before .before .before .before .before .before .signed-after in
     let n3 = c .before .before .before .before .before .before .before .before .before .before .before .number-after in
     let n4 = c .before .before .before .before .before .before .before .before .before .number-after2 in
     let n5 = c .before .before .before .before .before .before .before .number-after3 in
     let n6 = c .before .before .before .before .before .number-after4 in
-    rw
-    (← n1 .ensures .1, ← n2 .ensures .1, ← n3 .ensures .1, ← n4 .ensures .1, ← n5 .ensures .1, ← n6 .ensures .1, ← c .before .before .before .skip .ensures, eq-eqb _ _ (c .before .before .if1 .taken), c .kind-at .ensures, ← n1 .ensures .0, ← n2 .ensures .0, ← n3 .ensures .0, ← n4 .ensures .0, ← n5 .ensures .0, ← n6 .ensures .0)
+    rw (
+      ← n1 .ensures .1,
+      ← n2 .ensures .1,
+      ← n3 .ensures .1,
+      ← n4 .ensures .1,
+      ← n5 .ensures .1,
+      ← n6 .ensures .1,
+      ← c .before .before .before .skip .ensures,
+      eq-eqb _ _ (c .before .before .if1 .taken),
+      c .kind-at .ensures,
+      ← n1 .ensures .0,
+      ← n2 .ensures .0,
+      ← n3 .ensures .0,
+      ← n4 .ensures .0,
+      ← n5 .ensures .0,
+      ← n6 .ensures .0,
+    )
 
 returns-2 : tie.Need-returns-2
 unfolding derivativeHeld
 returns-2 c =
-    let n1 = c .before .before .before .before .before .before .before .before .before .before .before .before .before .kind-after in
+    let n1 = c .before .before .before .before .before .before .before .before .before .before .before .before .before .word-after in
     let n2 = c .before .before .before .before .before .before .before .before .before .before .before .signed-after in
     let n3 = c .before .before .before .before .before .before .before .before .before .number-after in
     let n4 = c .before .before .before .before .before .before .before .number-after2 in
     let n5 = c .before .before .before .before .before .number-after3 in
     let n6 = c .before .before .before .number-after4 in
-    rw
-    (← n1 .ensures .1, ← n2 .ensures .1, ← n3 .ensures .1, ← n4 .ensures .1, ← n5 .ensures .1, ← n6 .ensures .1, ← c .before .skip .ensures, ne-eqb _ _ (c .if1 .left))
+    rw (
+      ← n1 .ensures .1,
+      ← n2 .ensures .1,
+      ← n3 .ensures .1,
+      ← n4 .ensures .1,
+      ← n5 .ensures .1,
+      ← n6 .ensures .1,
+      ← c .before .skip .ensures,
+      ne-eqb _ _ (c .if1 .left),
+    )
 
 pub derivative-spec : {M : Type 1} → statement M
 derivative-spec =
     tie.close
     (tie.spec
+    (λ c. search needs)
     (λ c. search needs)
     (λ c κs. search needs)
     (λ c. search needs)

@@ -1,34 +1,45 @@
 -- `header` meets its contract.
-use mathlib.Core.Path.{_≡_}
-use borrow.Author.Needs.{needs}
 use borrow.Author.Tests.{eq-eqb, ne-eqb}
-use Rattle.exact.specs.Text.{text}
-use Rattle.line_forms.specs.Bytes.{after}
 use Rattle.line_forms.specs.Readings.{headerHeld}
+use borrow.Author.Needs.{needs}
 use Rattle.line_contents.proofs.header.Statement.{statement}
 use Rattle.line_contents.proofs.header.Tie as tie
 
 returns : tie.Need-returns
 unfolding headerHeld
 returns c =
-    let n1 = c .before .before .before .before .before .before .before .before .before .before .before .before .number-after in
-    let n2 = c .before .before .before .before .before .before .before .before .before .before .number-after2 in
-    let n3 = c .before .before .before .before .before .before .pair-after in
+    let n1 = c .before .before .before .before .before .before .before .before .before .before .before .number-after in
+    let n2 = c .before .before .before .before .before .before .before .before .before .number-after2 in
+    let n3 = c .before .before .before .before .before .before .word-after in
     let n4 = c .before .before .before .before .number-after3 in
-    let end : _ ≡ after _ _ (text "))") = c .before .before .skip .ensures in
-    rw
-    (← n1 .ensures .1, ← n2 .ensures .1, ← n3 .ensures .1, ← n4 .ensures .1, ← end, eq-eqb _ _ (c .before .if1 .taken), ← n1 .ensures .0, ← n2 .ensures .0, ← n3 .ensures .0, ← n4 .ensures .0)
+    rw (
+      ← n1 .ensures .1,
+      ← n2 .ensures .1,
+      ← n3 .ensures .1,
+      ← n4 .ensures .1,
+      ← c .before .before .skip .ensures,
+      eq-eqb _ _ (c .before .if1 .taken),
+      ← n1 .ensures .0,
+      ← n2 .ensures .0,
+      ← n3 .ensures .0,
+      ← n4 .ensures .0,
+    )
 
 returns-2 : tie.Need-returns-2
 unfolding headerHeld
 returns-2 c =
-    let n1 = c .before .before .before .before .before .before .before .before .before .before .before .number-after in
-    let n2 = c .before .before .before .before .before .before .before .before .before .number-after2 in
-    let n3 = c .before .before .before .before .before .pair-after in
+    let n1 = c .before .before .before .before .before .before .before .before .before .before .number-after in
+    let n2 = c .before .before .before .before .before .before .before .before .number-after2 in
+    let n3 = c .before .before .before .before .before .word-after in
     let n4 = c .before .before .before .number-after3 in
-    let end : _ ≡ after _ _ (text "))") = c .before .skip .ensures in
-    rw
-    (← n1 .ensures .1, ← n2 .ensures .1, ← n3 .ensures .1, ← n4 .ensures .1, ← end, ne-eqb _ _ (c .if1 .left))
+    rw (
+      ← n1 .ensures .1,
+      ← n2 .ensures .1,
+      ← n3 .ensures .1,
+      ← n4 .ensures .1,
+      ← c .before .skip .ensures,
+      ne-eqb _ _ (c .if1 .left),
+    )
 
 pub header-spec : {M : Type 1} → statement M
 header-spec =
@@ -38,7 +49,6 @@ header-spec =
     (λ c κs. search needs)
     (λ c. search needs)
     (λ c κs. search needs)
-    (λ c. search needs)
     (λ c. search needs)
     (λ c. search needs)
     (λ c κs. search needs)

@@ -1,120 +1,285 @@
 -- `loan` meets its contract.
-use borrow.Author.Needs.{needs}
-use borrow.Author.Tests.{eq-eqb, ne-eqb}
+use mathlib.Core.Path.{sym, _∙_}
+use native.Mathlib.Omega.{arith}
+use borrow.Author.Tests.{eq-eqb, ne-eqb, not-true, not-false}
+use Rattle.exact.specs.Text.{text}
 use Rattle.line_forms.specs.Readings.{loanHeld}
+use Rattle.line_forms.proofs.Bytes.{stands-fits, after-true}
+use Rattle.line_forms.proofs.ContentLaws.{loan-stops}
+use borrow.Author.Needs.{needs}
 use Rattle.line_contents.proofs.loan.Statement.{statement}
 use Rattle.line_contents.proofs.loan.Tie as tie
 
 returns : tie.Need-returns
 unfolding loanHeld
 returns c =
-    let n1 = c .before .before .before .before .before .before .before .before .before .before .before .before .before .before .before .number-after in
-    let n2 = c .before .before .before .before .before .before .before .before .before .before .before .before .before .number-after2 in
-    let n3 = c .before .before .before .before .before .before .before .before .before .before .before .number-after3 in
-    let n4 = c .before .before .before .before .before .before .before .before .before .number-after4 in
-    let n5 = c .before .before .before .before .before .before .before .number-after5 in
-    let n6 = c .before .before .before .before .before .number-after6 in
-    let n7 = c .before .before .before .number-after7 in
+    let c1 = c in
+    let s = c1 .before .before .before .before .before .args .line .now in
+    let a0 = after-true s 0 (text "(loan (bal ") (c1 .before .before .before .before .before .pre) in
+    let n1 = c1 .before .before .before .long-at in
     rw (
+      ← a0,
       ← n1 .ensures .1,
+      loan-stops 1 s (n1 .result .next) (sym (c1 .before .stands .ensures) ∙ not-true (c1 .before .stands .result) (c1 .if1 .taken)),
+    )
+
+add-long-at : tie.Need-add-long-at
+add-long-at c =
+    let c1 = c .before in
+    let start = c1 .before .before .before .before .before in
+    let k = stands-fits (start .args .line .now) (c1 .before .before .before .long-at .result .next) (text ") (val ")
+    (sym (c1 .before .stands .ensures) ∙ not-false (c1 .before .stands .result) (c1 .if1 .left)) in
+    record { fits = omega (arith, k, start .good .0) }
+
+returns-2 : tie.Need-returns-2
+unfolding loanHeld
+returns-2 c =
+    let c2 = c in
+    let c1 = c2 .before .before .before .before .before in
+    let s = c1 .before .before .before .before .before .args .line .now in
+    let a0 = after-true s 0 (text "(loan (bal ") (c1 .before .before .before .before .before .pre) in
+    let n1 = c1 .before .before .before .long-at in
+    let a1 = after-true s (n1 .result .next) (text ") (val ") (sym (c1 .before .stands .ensures) ∙ not-false (c1 .before .stands .result) (c1 .if1 .left)) in
+    let n2 = c2 .before .before .before .long-at2 in
+    rw (
+      ← a0,
+      ← n1 .ensures .1,
+      ← a1,
       ← n2 .ensures .1,
+      loan-stops 2 s (n2 .result .next) (sym (c2 .before .stands2 .ensures) ∙ not-true (c2 .before .stands2 .result) (c2 .if2 .taken)),
+    )
+
+add-short-at : tie.Need-add-short-at
+add-short-at c =
+    let c2 = c .before in
+    let start = c2 .before .before .before .before .before .before .before .before .before .before in
+    let k = stands-fits (start .args .line .now) (c2 .before .before .before .long-at2 .result .next) (text ") (amort ")
+    (sym (c2 .before .stands2 .ensures) ∙ not-false (c2 .before .stands2 .result) (c2 .if2 .left)) in
+    record { fits = omega (arith, k, start .good .0) }
+
+returns-3 : tie.Need-returns-3
+unfolding loanHeld
+returns-3 c =
+    let c3 = c in
+    let c2 = c3 .before .before .before .before .before in
+    let c1 = c2 .before .before .before .before .before in
+    let s = c1 .before .before .before .before .before .args .line .now in
+    let a0 = after-true s 0 (text "(loan (bal ") (c1 .before .before .before .before .before .pre) in
+    let n1 = c1 .before .before .before .long-at in
+    let a1 = after-true s (n1 .result .next) (text ") (val ") (sym (c1 .before .stands .ensures) ∙ not-false (c1 .before .stands .result) (c1 .if1 .left)) in
+    let n2 = c2 .before .before .before .long-at2 in
+    let a2 = after-true s (n2 .result .next) (text ") (amort ") (sym (c2 .before .stands2 .ensures) ∙ not-false (c2 .before .stands2 .result) (c2 .if2 .left)) in
+    let n3 = c3 .before .before .before .short-at in
+    rw (
+      ← a0,
+      ← n1 .ensures .1,
+      ← a1,
+      ← n2 .ensures .1,
+      ← a2,
       ← n3 .ensures .1,
+      loan-stops 3 s (n3 .result .next) (sym (c3 .before .stands3 .ensures) ∙ not-true (c3 .before .stands3 .result) (c3 .if3 .taken)),
+    )
+
+add-short-at-2 : tie.Need-add-short-at-2
+add-short-at-2 c =
+    let c3 = c .before in
+    let start = c3 .before .before .before .before .before .before .before .before .before .before .before .before .before .before .before in
+    let k = stands-fits (start .args .line .now) (c3 .before .before .before .short-at .result .next) (text ") (term ")
+    (sym (c3 .before .stands3 .ensures) ∙ not-false (c3 .before .stands3 .result) (c3 .if3 .left)) in
+    record { fits = omega (arith, k, start .good .0) }
+
+returns-4 : tie.Need-returns-4
+unfolding loanHeld
+returns-4 c =
+    let c4 = c in
+    let c3 = c4 .before .before .before .before .before in
+    let c2 = c3 .before .before .before .before .before in
+    let c1 = c2 .before .before .before .before .before in
+    let s = c1 .before .before .before .before .before .args .line .now in
+    let a0 = after-true s 0 (text "(loan (bal ") (c1 .before .before .before .before .before .pre) in
+    let n1 = c1 .before .before .before .long-at in
+    let a1 = after-true s (n1 .result .next) (text ") (val ") (sym (c1 .before .stands .ensures) ∙ not-false (c1 .before .stands .result) (c1 .if1 .left)) in
+    let n2 = c2 .before .before .before .long-at2 in
+    let a2 = after-true s (n2 .result .next) (text ") (amort ") (sym (c2 .before .stands2 .ensures) ∙ not-false (c2 .before .stands2 .result) (c2 .if2 .left)) in
+    let n3 = c3 .before .before .before .short-at in
+    let a3 = after-true s (n3 .result .next) (text ") (term ") (sym (c3 .before .stands3 .ensures) ∙ not-false (c3 .before .stands3 .result) (c3 .if3 .left)) in
+    let n4 = c4 .before .before .before .short-at2 in
+    rw (
+      ← a0,
+      ← n1 .ensures .1,
+      ← a1,
+      ← n2 .ensures .1,
+      ← a2,
+      ← n3 .ensures .1,
+      ← a3,
       ← n4 .ensures .1,
+      loan-stops 4 s (n4 .result .next) (sym (c4 .before .stands4 .ensures) ∙ not-true (c4 .before .stands4 .result) (c4 .if4 .taken)),
+    )
+
+add-score-at : tie.Need-add-score-at
+add-score-at c =
+    let c4 = c .before in
+    let start = c4 .before .before .before .before .before .before .before .before .before .before .before .before .before .before .before .before .before .before .before .before in
+    let k = stands-fits (start .args .line .now) (c4 .before .before .before .short-at2 .result .next) (text ") (score ")
+    (sym (c4 .before .stands4 .ensures) ∙ not-false (c4 .before .stands4 .result) (c4 .if4 .left)) in
+    record { fits = omega (arith, k, start .good .0) }
+
+returns-5 : tie.Need-returns-5
+unfolding loanHeld
+returns-5 c =
+    let c5 = c in
+    let c4 = c5 .before .before .before .before .before in
+    let c3 = c4 .before .before .before .before .before in
+    let c2 = c3 .before .before .before .before .before in
+    let c1 = c2 .before .before .before .before .before in
+    let s = c1 .before .before .before .before .before .args .line .now in
+    let a0 = after-true s 0 (text "(loan (bal ") (c1 .before .before .before .before .before .pre) in
+    let n1 = c1 .before .before .before .long-at in
+    let a1 = after-true s (n1 .result .next) (text ") (val ") (sym (c1 .before .stands .ensures) ∙ not-false (c1 .before .stands .result) (c1 .if1 .left)) in
+    let n2 = c2 .before .before .before .long-at2 in
+    let a2 = after-true s (n2 .result .next) (text ") (amort ") (sym (c2 .before .stands2 .ensures) ∙ not-false (c2 .before .stands2 .result) (c2 .if2 .left)) in
+    let n3 = c3 .before .before .before .short-at in
+    let a3 = after-true s (n3 .result .next) (text ") (term ") (sym (c3 .before .stands3 .ensures) ∙ not-false (c3 .before .stands3 .result) (c3 .if3 .left)) in
+    let n4 = c4 .before .before .before .short-at2 in
+    let a4 = after-true s (n4 .result .next) (text ") (score ") (sym (c4 .before .stands4 .ensures) ∙ not-false (c4 .before .stands4 .result) (c4 .if4 .left)) in
+    let n5 = c5 .before .before .before .score-at in
+    rw (
+      ← a0,
+      ← n1 .ensures .1,
+      ← a1,
+      ← n2 .ensures .1,
+      ← a2,
+      ← n3 .ensures .1,
+      ← a3,
+      ← n4 .ensures .1,
+      ← a4,
       ← n5 .ensures .1,
+      loan-stops 5 s (n5 .result .next) (sym (c5 .before .stands5 .ensures) ∙ not-true (c5 .before .stands5 .result) (c5 .if5 .taken)),
+    )
+
+add-short-at-3 : tie.Need-add-short-at-3
+add-short-at-3 c =
+    let c5 = c .before in
+    let start = c5 .before .before .before .before .before .before .before .before .before .before .before .before .before .before .before .before .before .before .before .before .before .before .before .before .before in
+    let k = stands-fits (start .args .line .now) (c5 .before .before .before .score-at .result .next) (text ") (sup ")
+    (sym (c5 .before .stands5 .ensures) ∙ not-false (c5 .before .stands5 .result) (c5 .if5 .left)) in
+    record { fits = omega (arith, k, start .good .0) }
+
+returns-6 : tie.Need-returns-6
+unfolding loanHeld
+returns-6 c =
+    let c6 = c in
+    let c5 = c6 .before .before .before .before .before in
+    let c4 = c5 .before .before .before .before .before in
+    let c3 = c4 .before .before .before .before .before in
+    let c2 = c3 .before .before .before .before .before in
+    let c1 = c2 .before .before .before .before .before in
+    let s = c1 .before .before .before .before .before .args .line .now in
+    let a0 = after-true s 0 (text "(loan (bal ") (c1 .before .before .before .before .before .pre) in
+    let n1 = c1 .before .before .before .long-at in
+    let a1 = after-true s (n1 .result .next) (text ") (val ") (sym (c1 .before .stands .ensures) ∙ not-false (c1 .before .stands .result) (c1 .if1 .left)) in
+    let n2 = c2 .before .before .before .long-at2 in
+    let a2 = after-true s (n2 .result .next) (text ") (amort ") (sym (c2 .before .stands2 .ensures) ∙ not-false (c2 .before .stands2 .result) (c2 .if2 .left)) in
+    let n3 = c3 .before .before .before .short-at in
+    let a3 = after-true s (n3 .result .next) (text ") (term ") (sym (c3 .before .stands3 .ensures) ∙ not-false (c3 .before .stands3 .result) (c3 .if3 .left)) in
+    let n4 = c4 .before .before .before .short-at2 in
+    let a4 = after-true s (n4 .result .next) (text ") (score ") (sym (c4 .before .stands4 .ensures) ∙ not-false (c4 .before .stands4 .result) (c4 .if4 .left)) in
+    let n5 = c5 .before .before .before .score-at in
+    let a5 = after-true s (n5 .result .next) (text ") (sup ") (sym (c5 .before .stands5 .ensures) ∙ not-false (c5 .before .stands5 .result) (c5 .if5 .left)) in
+    let n6 = c6 .before .before .before .short-at3 in
+    rw (
+      ← a0,
+      ← n1 .ensures .1,
+      ← a1,
+      ← n2 .ensures .1,
+      ← a2,
+      ← n3 .ensures .1,
+      ← a3,
+      ← n4 .ensures .1,
+      ← a4,
+      ← n5 .ensures .1,
+      ← a5,
       ← n6 .ensures .1,
-      ← n7 .ensures .1,
-      ← c .before .skip .ensures,
-      eq-eqb _ _ (c .if1 .taken),
+      ← c6 .before .skip .ensures,
+      eq-eqb _ _ (c6 .if6 .taken),
       ← n1 .ensures .0,
       ← n2 .ensures .0,
       ← n3 .ensures .0,
       ← n4 .ensures .0,
       ← n5 .ensures .0,
       ← n6 .ensures .0,
-      ← n7 .ensures .0,
     )
 
-returns-2 : tie.Need-returns-2
+returns-7 : tie.Need-returns-7
 unfolding loanHeld
-returns-2 c =
-    let n1 = c .before .before .before .before .before .before .before .before .before .before .before .before .before .before .before .before .before .before .before .before .number-after in
-    let n2 = c .before .before .before .before .before .before .before .before .before .before .before .before .before .before .before .before .before .before .number-after2 in
-    let n3 = c .before .before .before .before .before .before .before .before .before .before .before .before .before .before .before .before .number-after3 in
-    let n4 = c .before .before .before .before .before .before .before .before .before .before .before .before .before .before .number-after4 in
-    let n5 = c .before .before .before .before .before .before .before .before .before .before .before .before .number-after5 in
-    let n6 = c .before .before .before .before .before .before .before .before .before .before .number-after6 in
-    let n7 = c .before .before .before .before .before .before .before .before .number-after7 in
-    let n8 = c .before .before .before .number-after8 in
+returns-7 c =
+    let c6 = c in
+    let c5 = c6 .before .before .before .before .before in
+    let c4 = c5 .before .before .before .before .before in
+    let c3 = c4 .before .before .before .before .before in
+    let c2 = c3 .before .before .before .before .before in
+    let c1 = c2 .before .before .before .before .before in
+    let s = c1 .before .before .before .before .before .args .line .now in
+    let a0 = after-true s 0 (text "(loan (bal ") (c1 .before .before .before .before .before .pre) in
+    let n1 = c1 .before .before .before .long-at in
+    let a1 = after-true s (n1 .result .next) (text ") (val ") (sym (c1 .before .stands .ensures) ∙ not-false (c1 .before .stands .result) (c1 .if1 .left)) in
+    let n2 = c2 .before .before .before .long-at2 in
+    let a2 = after-true s (n2 .result .next) (text ") (amort ") (sym (c2 .before .stands2 .ensures) ∙ not-false (c2 .before .stands2 .result) (c2 .if2 .left)) in
+    let n3 = c3 .before .before .before .short-at in
+    let a3 = after-true s (n3 .result .next) (text ") (term ") (sym (c3 .before .stands3 .ensures) ∙ not-false (c3 .before .stands3 .result) (c3 .if3 .left)) in
+    let n4 = c4 .before .before .before .short-at2 in
+    let a4 = after-true s (n4 .result .next) (text ") (score ") (sym (c4 .before .stands4 .ensures) ∙ not-false (c4 .before .stands4 .result) (c4 .if4 .left)) in
+    let n5 = c5 .before .before .before .score-at in
+    let a5 = after-true s (n5 .result .next) (text ") (sup ") (sym (c5 .before .stands5 .ensures) ∙ not-false (c5 .before .stands5 .result) (c5 .if5 .left)) in
+    let n6 = c6 .before .before .before .short-at3 in
     rw (
+      ← a0,
       ← n1 .ensures .1,
+      ← a1,
       ← n2 .ensures .1,
+      ← a2,
       ← n3 .ensures .1,
+      ← a3,
       ← n4 .ensures .1,
+      ← a4,
       ← n5 .ensures .1,
+      ← a5,
       ← n6 .ensures .1,
-      ← n7 .ensures .1,
-      ← c .before .before .before .before .before .before .skip .ensures,
-      ne-eqb _ _ (c .before .before .before .before .before .if1 .left),
-      ← n8 .ensures .1,
-      ← c .before .skip2 .ensures,
-      eq-eqb _ _ (c .if2 .taken),
-      ← n1 .ensures .0,
-      ← n2 .ensures .0,
-      ← n3 .ensures .0,
-      ← n4 .ensures .0,
-      ← n8 .ensures .0,
-    )
-
-returns-3 : tie.Need-returns-3
-unfolding loanHeld
-returns-3 c =
-    let n1 = c .before .before .before .before .before .before .before .before .before .before .before .before .before .before .before .before .before .before .before .before .number-after in
-    let n2 = c .before .before .before .before .before .before .before .before .before .before .before .before .before .before .before .before .before .before .number-after2 in
-    let n3 = c .before .before .before .before .before .before .before .before .before .before .before .before .before .before .before .before .number-after3 in
-    let n4 = c .before .before .before .before .before .before .before .before .before .before .before .before .before .before .number-after4 in
-    let n5 = c .before .before .before .before .before .before .before .before .before .before .before .before .number-after5 in
-    let n6 = c .before .before .before .before .before .before .before .before .before .before .number-after6 in
-    let n7 = c .before .before .before .before .before .before .before .before .number-after7 in
-    let n8 = c .before .before .before .number-after8 in
-    rw (
-      ← n1 .ensures .1,
-      ← n2 .ensures .1,
-      ← n3 .ensures .1,
-      ← n4 .ensures .1,
-      ← n5 .ensures .1,
-      ← n6 .ensures .1,
-      ← n7 .ensures .1,
-      ← c .before .before .before .before .before .before .skip .ensures,
-      ne-eqb _ _ (c .before .before .before .before .before .if1 .left),
-      ← n8 .ensures .1,
-      ← c .before .skip2 .ensures,
-      ne-eqb _ _ (c .if2 .left),
+      ← c6 .before .skip .ensures,
+      ne-eqb _ _ (c6 .if6 .left),
     )
 
 pub loan-spec : {M : Type 1} → statement M
 loan-spec =
     tie.close
     (tie.spec
-    (λ c. search needs)
-    (λ c κs. search needs)
-    (λ c. search needs)
-    (λ c κs. search needs)
-    (λ c. search needs)
-    (λ c κs. search needs)
-    (λ c. search needs)
-    (λ c κs. search needs)
-    (λ c. search needs)
-    (λ c κs. search needs)
-    (λ c. search needs)
-    (λ c κs. search needs)
-    (λ c. search needs)
     (λ c κs. search needs)
     (λ c. search needs)
     (λ c κs. search needs)
     returns
-    (λ c. search needs)
+    add-long-at
     (λ c κs. search needs)
     (λ c. search needs)
     (λ c κs. search needs)
     returns-2
-    returns-3)
+    add-short-at
+    (λ c κs. search needs)
+    (λ c. search needs)
+    (λ c κs. search needs)
+    returns-3
+    add-short-at-2
+    (λ c κs. search needs)
+    (λ c. search needs)
+    (λ c κs. search needs)
+    returns-4
+    add-score-at
+    (λ c κs. search needs)
+    (λ c. search needs)
+    (λ c κs. search needs)
+    returns-5
+    add-short-at-3
+    (λ c κs. search needs)
+    (λ c. search needs)
+    (λ c κs. search needs)
+    returns-6
+    returns-7)

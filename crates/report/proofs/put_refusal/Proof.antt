@@ -7,7 +7,7 @@ use Rattle.report.specs.Decimal.{digits}
 use Rattle.report.proofs.Lines.{begin, field, end, two-length}
 use mathlib.Core.Path.{_≡_}
 use Prim.Native.Nat.{_+_}
-use Rattle.report.specs.Line.{line, refusalLine}
+use Rattle.report.specs.Line.{refusalLine}
 use borrow.Author.Needs.{needs}
 use Rattle.report.proofs.put_refusal.Statement.{statement}
 use Rattle.report.proofs.put_refusal.Tie as tie

@@ -1,0 +1,35 @@
+-- `few_value` meets its contract.
+use mathlib.Core.Path.{_∙_}
+use native.Mathlib.Omega.{arith}
+use Rattle.line_forms.proofs.Numerals.{value-one, value-two, value-three}
+use borrow.Author.Needs.{needs}
+use Rattle.line_fields.proofs.few_value.Statement.{statement}
+use Rattle.line_fields.proofs.few_value.Tie as tie
+
+returns : tie.Need-returns
+returns c = c .before .digit-at .ensures .0 ∙ value-one (c .before .before .before .args .digits .now) (c .if1 .taken)
+
+returns-2 : tie.Need-returns-2
+returns-2 c =
+    rw (c .before .before .before .digit-at .ensures .0, c .before .digit-at2 .ensures .0) (value-two (c .before .before .before .before .before .args .digits .now) (c .if2 .taken))
+
+returns-3 : tie.Need-returns-3
+returns-3 c =
+    let s = c .before .before .before .before .before .before in
+    rw (c .before .before .before .before .digit-at .ensures .0, c .before .before .digit-at2 .ensures .0, c .digit-at3 .ensures .0)
+    (value-three (s .args .digits .now) (omega (arith, s .pre .1, s .pre .2, c .before .before .before .if1 .left, c .before .if2 .left)))
+
+pub few-value-spec : {M : Type 1} → statement M
+few-value-spec =
+    tie.close
+    (tie.spec
+    (λ c κs. search needs)
+    returns
+    (λ c. search needs)
+    (λ c κs. search needs)
+    (λ c. search needs)
+    returns-2
+    (λ c. search needs)
+    (λ c κs. search needs)
+    (λ c. search needs)
+    returns-3)
