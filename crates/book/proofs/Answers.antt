@@ -15,7 +15,7 @@ use Rattle.line_forms.specs.declared.HeaderLine.the-variants.{Header as HeaderR
 use Rattle.line_forms.specs.declared.Loan.{Loan}
 use Rattle.line_forms.specs.declared.Line.{Line}
 use Rattle.line_forms.specs.declared.Line.the-variants.{Loan as LoanLine, Refusal}
-use Rattle.line_forms.specs.Claims.{refusalOf as lineRefusal, heldBy as lineContent}
+use Rattle.line_forms.specs.Claims.{lineRefusal, lineContent}
 use Rattle.line_forms.specs.Readings.{lineOf, headerOf}
 use Rattle.figures.specs.declared.Sums.{Sums}
 use Rattle.figures.specs.Sums.{Bounded, InLimits, plus}

@@ -4,7 +4,7 @@ ghost use Prim.Native.Nat.{_≤_};
 ghost use lib.ListN.{length};
 ghost use Rattle.loan_charge.specs.Tables.{exponentials};
 ghost use Rattle.loan_charge.specs.CreditFactor.{builtInRates};
-ghost use Rattle.line_forms.specs.Claims.{heldBy as lineContent};
+ghost use Rattle.line_forms.specs.Claims.{lineContent};
 ghost use Rattle.figures.specs.Sums.{Bounded, InLimits, plus};
 ghost use Rattle.report.specs.Line.{Written};
 ghost use Rattle.book_model.specs.Accepted.{loanBeyond, loanRefusal, otherRefusal};

@@ -13,8 +13,8 @@ use Rattle.line_forms.specs.declared.HeaderLine.the-variants.{Header as HeaderR
 use Rattle.line_forms.specs.declared.Line.{Line}
 use Rattle.line_forms.specs.declared.Line.the-variants.{Loan as LoanLine, Policy as PolicyLine, Derivative as DerivativeLine, Asset as AssetLine, Amount as AmountLine, Refusal}
 use Rattle.line_forms.specs.Readings.{lineOf, headerOf}
-use Rattle.line_forms.proofs.HeaderLaws.{header-reading}
-use Rattle.line_forms.proofs.LineLaws.{line-reading}
+use Rattle.line_forms.proofs.HeaderLaws.{header-numbers}
+use Rattle.line_forms.proofs.LineLaws.{line-numbers}
 use Rattle.figures.specs.Sums.{plus}
 use Rattle.book_model.specs.declared.Book.{Book}
 use Rattle.book_model.specs.Accepted.{mostOther, loanBeyond, refusalFor}
@@ -80,8 +80,8 @@ refused-feeding s l n = go (eqb (refusalIn s l) 0) _ refl
 pub demand1 : Demand1
 unfolding closingWith feedingLine
 demand1 = record {
-  opening-numbers = λ line. opening-number (headerOf line) (header-reading line .numbers);
-  feeding-numbers = λ s line. feeding-number s (lineOf line) (line-reading line .numbers);
+  opening-numbers = λ line. opening-number (headerOf line) (header-numbers line);
+  feeding-numbers = λ s line. feeding-number s (lineOf line) (line-numbers line);
   closing-numbers = λ b size. closing-number (tooFew (b .header) (b .sums .counts)) (ltb size reportSize);
   refused-opening = λ line. refused-opening (headerOf line);
   refused-feeding = λ s line. refused-feeding s (lineOf line);

@@ -20,10 +20,10 @@ use Rattle.line_forms.specs.declared.Line.the-variants.{Loan as LoanLine, Polic
 use Rattle.line_forms.specs.declared.HeaderLine.{HeaderLine}
 use Rattle.line_forms.specs.declared.HeaderLine.the-variants.{Header as HeaderRead, Refusal as HeaderRefusal}
 use Rattle.line_forms.specs.Readings.{lineOf, headerOf}
-use Rattle.line_forms.specs.Claims.{AfterHeader, NoBytes, lineWith, LineReading, HeaderReading}
+use Rattle.line_forms.specs.Claims.{AfterHeader, lineWith, lineRefusal, headerRefusal, LineReading, HeaderReading}
 use Rattle.line_forms.specs.Contents.{inRange}
-use Rattle.line_forms.proofs.LineLaws.{line-reading}
-use Rattle.line_forms.proofs.HeaderLaws.{header-reading}
+use Rattle.line_forms.proofs.LineLaws.{line-reading, line-accepted, line-numbers, refused-line}
+use Rattle.line_forms.proofs.HeaderLaws.{header-reading, header-accepted, header-numbers}
 use Rattle.figures.specs.declared.Counts.{Counts}
 use Rattle.book_model.specs.Accepted.{Accepted, countsIn, mostOther, loanBeyond, refusalFor, refusalOf}
 use Rattle.book_model.specs.Calls.{Answer, emptyState, openingFor, opening, closingRefusal, reportSize}
@@ -65,10 +65,10 @@ data Shown (s : List ℕ) : LineKind → Type 0 where
 module _ (s : List ℕ) where
   -- a line read as the data c
   shows : (c : Content) → AfterHeader c → lineOf s ≡ lineWith c → ShowsInRange s c
-  shows c a e = let k = line-reading s .accepted c a .0 e in record { shows = record { written = k .0; bytes = k .2 }; in-range = k .1 }
+  shows c a e = let k = line-accepted s c a .0 e in record { shows = record { writable = k .0; bytes = k .2 }; in-range = k .1 }
 
   read : (c : Content) → AfterHeader c → ShowsInRange s c → lineOf s ≡ lineWith c
-  read c a k = line-reading s .accepted c a .1 (k .shows .written, k .in-range, k .shows .bytes)
+  read c a k = line-accepted s c a .1 (k .shows .writable, k .in-range, k .shows .bytes)
 
   kind-shown : Shown s (kindOf (lineOf s))
   unfolding contentKind
@@ -230,18 +230,33 @@ module _ (t : Terms) (n : Counts) (s : List ℕ) where
   answers (eight c o h m) = rw (other-is s c o h, le-leb mostOther (n .other) m) refl
   answers (fitting c h f) = fitting-answer c h f
 
--- line reading refuses with 1, 2, 7 or 3 alone
+-- the numbers of line reading, none of which feeding gives on other grounds
+data Reading : ℕ → Type 0 where
+  one : Reading 1
+  two : Reading 2
+  seven : Reading 7
+  three : Reading 3
+
+not-counts : {m : ℕ} → Reading m → (m ≡ 0 → ⊥) × (m ≡ 5 → ⊥) × (m ≡ 8 → ⊥)
+not-counts one = (λ z. omega (arith, z), λ z. omega (arith, z), λ z. omega (arith, z))
+not-counts two = (λ z. omega (arith, z), λ z. omega (arith, z), λ z. omega (arith, z))
+not-counts seven = (λ z. omega (arith, z), λ z. omega (arith, z), λ z. omega (arith, z))
+not-counts three = (λ z. omega (arith, z), λ z. omega (arith, z), λ z. omega (arith, z))
+
+read-answer : (t : Terms) (n : Counts) (s : List ℕ) {m : ℕ} → Reading m → lineRefusal (lineOf s) ≡ m → refusalFor t n (kindOf (lineOf s)) ≡ m
+read-answer t n s {m} r e = answers t n s (by-bytes m (refused-line (lineOf s) m e (not-counts r .0)))
+
+-- line reading refuses with them alone
 not-by-bytes : (s : List ℕ) (n k : ℕ) → lineOf s ≡ Refusal n → n ≡ k → (k ≡ 1 → ⊥) → (k ≡ 2 → ⊥) → (k ≡ 7 → ⊥) → (k ≡ 3 → ⊥) → ⊥
 not-by-bytes s n k e f a b c d =
-    ⊎-elim (λ (x : n ≡ 1). a (sym f ∙ x)) (⊎-elim (λ (x : n ≡ 2). b (sym f ∙ x)) (⊎-elim (λ (x : n ≡ 7). c (sym f ∙ x)) (λ (x : n ≡ 3). d (sym f ∙ x)))) (line-reading s .numbers n e)
+    ⊎-elim (λ (x : n ≡ 1). a (sym f ∙ x)) (⊎-elim (λ (x : n ≡ 2). b (sym f ∙ x)) (⊎-elim (λ (x : n ≡ 7). c (sym f ∙ x)) (λ (x : n ≡ 3). d (sym f ∙ x)))) (line-numbers s n e)
 
 module _ {t : Terms} {n : Counts} {s : List ℕ} where
-  -- a number other than 0, 5 and 8 is line reading's
-  rule-bytes : {k : ℕ} (m : ℕ) → Judged t n s k → k ≡ m → (m ≡ 0 → ⊥) → (m ≡ 5 → ⊥) → (m ≡ 8 → ⊥) → lineOf s ≡ Refusal m
-  rule-bytes m (by-bytes k e) f x y z = e ∙ ap Refusal f
-  rule-bytes m (five l h b) f x y z = absurd (y (sym f))
-  rule-bytes m (eight c o h b) f x y z = absurd (z (sym f))
-  rule-bytes m (fitting c h b) f x y z = absurd (x (sym f))
+  rule-bytes : {k m : ℕ} → Reading m → Judged t n s k → k ≡ m → lineRefusal (lineOf s) ≡ m
+  rule-bytes r (by-bytes k e) f = ap lineRefusal e ∙ f
+  rule-bytes r (five l h b) f = absurd (not-counts r .1 (sym f))
+  rule-bytes r (eight c o h b) f = absurd (not-counts r .2 (sym f))
+  rule-bytes r (fitting c h b) f = absurd (not-counts r .0 (sym f))
 
   rule-5 : {k : ℕ} → Judged t n s k → k ≡ 5 → (l : Loan) × ShowsInRange s (loan l) × LoanBeyond (t .header) n (l .score)
   rule-5 (by-bytes k e) f = absurd (not-by-bytes s k 5 e f (λ z. omega (arith, z)) (λ z. omega (arith, z)) (λ z. omega (arith, z)) (λ z. omega (arith, z)))
@@ -263,20 +278,20 @@ module _ {t : Terms} {n : Counts} {s : List ℕ} where
 
 pub feeding-answer : (t : Terms) (a : Accepted) (s : List ℕ) → FeedingAnswer t a s (refusalOf t a s)
 feeding-answer t a s =
-    let r : LineReading s = line-reading s in
+    let r : LineReading s (lineOf s) = line-reading s in
     let n : Counts = countsIn (a .kept) in
     let j : Judged t n s (refusalOf t a s) = judged-kind t n s (kindOf (lineOf s)) (kind-shown s) in
     record {
       taken = (λ e. rule-0 j e, λ (c, h, f). answers t n s (fitting c h f));
-      number-1 = (λ e. r .refused1 .0 (rule-bytes 1 j e (λ z. omega (arith, z)) (λ z. omega (arith, z)) (λ z. omega (arith, z))), λ e. answers t n s (by-bytes 1 (r .refused1 .1 e)));
-      number-2 = (λ e. r .refused2 .0 (rule-bytes 2 j e (λ z. omega (arith, z)) (λ z. omega (arith, z)) (λ z. omega (arith, z))), λ e. answers t n s (by-bytes 2 (r .refused2 .1 e)));
+      number-1 = (λ e. r .refused1 .0 (rule-bytes one j e), λ e. read-answer t n s one (r .refused1 .1 e));
+      number-2 = (λ e. r .refused2 .0 (rule-bytes two j e), λ e. read-answer t n s two (r .refused2 .1 e));
       number-7 = (
-        λ e. let (x, w, y) = r .refused7 .0 (rule-bytes 7 j e (λ z. omega (arith, z)) (λ z. omega (arith, z)) (λ z. omega (arith, z))) in (x, record { written = w; bytes = y }),
-        λ (x, k). answers t n s (by-bytes 7 (r .refused7 .1 (x, k .written, k .bytes))),
+        λ e. let (x, w, y) = r .refused7 .0 (rule-bytes seven j e) in (x, record { writable = w; bytes = y }),
+        λ (x, k). read-answer t n s seven ((r .refused7 .1 (x, k .writable, k .bytes))),
       );
       number-3 = (
-        λ e. let (c, o, w, i, y) = r .refused3 .0 (rule-bytes 3 j e (λ z. omega (arith, z)) (λ z. omega (arith, z)) (λ z. omega (arith, z))) in (c, o, record { written = w; bytes = y }, i),
-        λ (c, o, k, i). answers t n s (by-bytes 3 (r .refused3 .1 (c, o, k .written, i, k .bytes))),
+        λ e. let (c, o, w, i, y) = r .refused3 .0 (rule-bytes three j e) in (c, o, record { writable = w; bytes = y }, i),
+        λ (c, o, k, i). read-answer t n s three ((r .refused3 .1 (c, o, k .writable, i, k .bytes))),
       );
       number-5 = (λ e. rule-5 j e, λ (l, h, b). answers t n s (five l h b));
       number-8 = (λ e. rule-8 j e, λ (c, o, h, b). answers t n s (eight c o h b));
@@ -293,11 +308,11 @@ closing-answer t a size = record {
 
 -- Opening
 
--- a number other than 0 is header reading's
-by-header : (l : HeaderLine) (n : ℕ) → openingFor l .refusal ≡ n → (n ≡ 0 → ⊥) → l ≡ HeaderRefusal n
+-- opening gives header reading's number
+opening-number : (l : HeaderLine) → openingFor l .refusal ≡ headerRefusal l
 unfolding openingFor
-by-header (HeaderRead h) n e z = absurd (z (sym e))
-by-header (HeaderRefusal m) n e z = ap HeaderRefusal e
+opening-number (HeaderRead h) = refl
+opening-number (HeaderRefusal n) = refl
 
 -- a book opened is that of the header read
 opened-header : (l : HeaderLine) (h : Header) → ((n : ℕ) → l ≡ HeaderRefusal n → n ≡ 0 → ⊥) → openingFor l ≡ record { refusal = 0; state = emptyState (termsWith h) } → l ≡ HeaderRead h
@@ -305,33 +320,38 @@ unfolding openingFor
 opened-header (HeaderRead x) h b e = ap HeaderRead (ap (λ (o : Answer). o .state .book .header) e)
 opened-header (HeaderRefusal n) h b e = absurd (b n refl (ap (λ (o : Answer). o .refusal) e))
 
+opened-as : (s : List ℕ) (h : Header) → headerOf s ≡ HeaderRead h → opening s ≡ record { refusal = 0; state = emptyState (termsWith h) }
+unfolding openingFor
+opened-as s h e = ap openingFor e
+
 not-zero : (n : ℕ) → (n ≡ 1) ⊎ (n ≡ 2) ⊎ (n ≡ 7) ⊎ (n ≡ 3) ⊎ (n ≡ 4) → n ≡ 0 → ⊥
 not-zero n k z =
     ⊎-elim (λ (e : n ≡ 1). omega (arith, e, z))
     (⊎-elim (λ (e : n ≡ 2). omega (arith, e, z)) (⊎-elim (λ (e : n ≡ 7). omega (arith, e, z)) (⊎-elim (λ (e : n ≡ 3). omega (arith, e, z)) (λ (e : n ≡ 4). omega (arith, e, z))))) k
 
 pub openings : (s : List ℕ) → OpeningAnswer s (opening s)
-unfolding openingFor
 openings s =
-    let r : HeaderReading s = header-reading s in
+    let r : HeaderReading s (headerOf s) = header-reading s in
+    let n : opening s .refusal ≡ headerRefusal (headerOf s) = opening-number (headerOf s) in
     record {
       opens = λ h. (
-        λ e. let k = r .accepted h .0 (opened-header (headerOf s) h (λ n f. not-zero n (r .numbers n f)) e) in (record { shows = record { written = k .0; bytes = k .3 }; in-range = k .1 }, k .2),
-        λ (k, u). rw (r .accepted h .1 (k .shows .written, k .in-range, u, k .shows .bytes)) refl,
+        λ e. let k = header-accepted s h .0 (opened-header (headerOf s) h (λ m f. not-zero m (header-numbers s m f)) e) in
+            (record { shows = record { writable = k .0; bytes = k .3 }; in-range = k .1 }, k .2),
+        λ (k, u). opened-as s h (header-accepted s h .1 (k .shows .writable, k .in-range, u, k .shows .bytes)),
       );
-      number-1 = (λ e. r .refused1 .0 (by-header (headerOf s) 1 e (λ z. omega (arith, z))), λ e. rw (r .refused1 .1 e) refl);
-      number-2 = (λ e. r .refused2 .0 (by-header (headerOf s) 2 e (λ z. omega (arith, z))), λ e. rw (r .refused2 .1 e) refl);
+      number-1 = (λ e. r .refused1 .0 (sym n ∙ e), λ e. n ∙ r .refused1 .1 e);
+      number-2 = (λ e. r .refused2 .0 (sym n ∙ e), λ e. n ∙ r .refused2 .1 e);
       number-7 = (
-        λ e. let (c, a, w, y) = r .refused7 .0 (by-header (headerOf s) 7 e (λ z. omega (arith, z))) in (c, a, record { written = w; bytes = y }),
-        λ (c, a, k). rw (r .refused7 .1 (c, a, k .written, k .bytes)) refl,
+        λ e. let (c, a, w, y) = r .refused7 .0 (sym n ∙ e) in (c, a, record { writable = w; bytes = y }),
+        λ (c, a, k). n ∙ r .refused7 .1 (c, a, k .writable, k .bytes),
       );
       number-3 = (
-        λ e. let (h, w, i, y) = r .refused3 .0 (by-header (headerOf s) 3 e (λ z. omega (arith, z))) in (h, record { written = w; bytes = y }, i),
-        λ (h, k, i). rw (r .refused3 .1 (h, k .written, i, k .bytes)) refl,
+        λ e. let (h, w, i, y) = r .refused3 .0 (sym n ∙ e) in (h, record { writable = w; bytes = y }, i),
+        λ (h, k, i). n ∙ r .refused3 .1 (h, k .writable, i, k .bytes),
       );
       number-4 = (
-        λ e. let (h, w, i, u, y) = r .refused4 .0 (by-header (headerOf s) 4 e (λ z. omega (arith, z))) in (h, record { shows = record { written = w; bytes = y }; in-range = i }, u),
-        λ (h, k, u). rw (r .refused4 .1 (h, k .shows .written, k .in-range, u, k .shows .bytes)) refl,
+        λ e. let (h, w, i, u, y) = r .refused4 .0 (sym n ∙ e) in (h, record { shows = record { writable = w; bytes = y }; in-range = i }, u),
+        λ (h, k, u). n ∙ r .refused4 .1 (h, k .shows .writable, k .in-range, u, k .shows .bytes),
       );
     }
 

@@ -11,7 +11,7 @@ use Rattle.loan_charge.specs.declared.LoanInputs.{LoanInputs}
 use Rattle.loan_charge.specs.Charge.{baseExponents, allExponents, totalExponents, supplementExponents, totalQuantity, supplementQuantity, Chargeable}
 use Rattle.loan_charge.proofs.Promise.{promise}
 use Rattle.line_forms.specs.declared.Content.{Content}
-use Rattle.line_forms.specs.Claims.{heldBy as lineContent}
+use Rattle.line_forms.specs.Claims.{lineContent}
 use Rattle.line_forms.specs.Readings.{lineOf}
 use Rattle.book_model.specs.Exact.{exactShare, exactOf, exactRest, sumOver, exponentsOver, requirement}
 use Rattle.book_model.specs.Ranges.{Ranged}

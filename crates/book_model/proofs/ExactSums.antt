@@ -10,7 +10,7 @@ use Rattle.exact.proofs.Fractions
 use Rattle.exact.proofs.Fractions.{Nonnegative}
 use Rattle.exact.proofs.Within.{ceiling-alike}
 use Rattle.line_forms.specs.declared.Content.{Content}
-use Rattle.line_forms.specs.Claims.{heldBy as lineContent}
+use Rattle.line_forms.specs.Claims.{lineContent}
 use Rattle.line_forms.specs.Readings.{lineOf}
 use Rattle.other_charges.proofs.ChargeLaws.{InParts}
 use Rattle.figures.specs.declared.Money.{Money}

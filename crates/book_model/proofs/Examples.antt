@@ -9,7 +9,8 @@ use Rattle.coefficients.proofs.Examples as coefficients
 use Rattle.loan_charge.proofs.Examples as loan
 use Rattle.other_charges.proofs.Examples as other
 use Rattle.line_forms.specs.Bytes.{allWithin, runOf, same, after}
-use Rattle.line_forms.specs.Numerals.{isNumeral, valueFrom, numberOf}
+use Rattle.line_forms.specs.Numerals.{isNumeral}
+use Rattle.exact.specs.Decimal.{valueFrom}
 use Rattle.line_forms.specs.Contents.{headerInRange, moneyInRange, assetInRange, amountInRange}
 use Rattle.line_forms.specs.Parsing.{numberAt, afterNumber, afterNegative, signedAt, afterSigned, placeOf, afterWord}
 use Rattle.line_forms.specs.Readings.{headerHeld, assetHeld, plainHeld, signedHeld, amountHeld, contentOf, lineFor, lineOf, headerFor, headerOf}
@@ -29,16 +30,16 @@ use Rattle.book_model.specs.Examples.{workedHeader, workedLines, workedR
 use Rattle.book_model.proofs.Demand2.{demand2}
 
 taken : linesTaken (allFed (opened workedHeader) workedLines) ≡ workedLines
-unfolding allWithin runOf same after isNumeral valueFrom numberOf headerInRange moneyInRange assetInRange amountInRange numberAt afterNumber afterNegative signedAt afterSigned placeOf afterWord headerHeld assetHeld plainHeld signedHeld amountHeld contentOf lineFor lineOf headerFor headerOf contentKind kindCounts countsIn refusalFor accept headerIn termsOf acceptedOf allFed
+unfolding allWithin runOf same after isNumeral valueFrom headerInRange moneyInRange assetInRange amountInRange numberAt afterNumber afterNegative signedAt afterSigned placeOf afterWord headerHeld assetHeld plainHeld signedHeld amountHeld contentOf lineFor lineOf headerFor headerOf contentKind kindCounts countsIn refusalFor accept headerIn termsOf acceptedOf allFed
 taken = refl
 
 opens : opening workedHeader .refusal ≡ 0
-unfolding allWithin runOf same after isNumeral valueFrom numberOf headerInRange numberAt afterNumber placeOf afterWord headerHeld contentOf headerFor headerOf openingFor
+unfolding allWithin runOf same after isNumeral valueFrom headerInRange numberAt afterNumber placeOf afterWord headerHeld contentOf headerFor headerOf openingFor
 opens = refl
 
 -- the header counts no loan
 pub counts-none : (termsOf (opened workedHeader) .header .loans ≡ 0) × (termsOf (opened workedHeader) .header .unscored ≡ 0)
-unfolding allWithin runOf same after isNumeral valueFrom numberOf headerInRange numberAt afterNumber placeOf afterWord headerHeld contentOf headerFor headerOf headerIn termsOf
+unfolding allWithin runOf same after isNumeral valueFrom headerInRange numberAt afterNumber placeOf afterWord headerHeld contentOf headerFor headerOf headerIn termsOf
 counts-none = (refl, refl)
 
 closes : (size : ℕ) → 512 ≤ size → closing (afterLines (opening workedHeader .state) workedLines .book) size .refusal ≡ 0
@@ -46,7 +47,7 @@ closes size h = demand2 .closings workedHeader workedLines size .writes .1 (omeg
 
 -- the report of the four lines
 worked : reportFor (termsOf (opened workedHeader)) workedLines ≡ workedReport
-unfolding allWithin runOf same after isNumeral valueFrom numberOf headerInRange moneyInRange assetInRange amountInRange numberAt afterNumber afterNegative signedAt afterSigned placeOf afterWord headerHeld assetHeld plainHeld signedHeld amountHeld contentOf lineFor lineOf headerFor headerOf headerIn termsOf ceiling assetCharge shareCharge exactAmount exactShare sumOver kindCounts contentKind share assetShare amountShare sumOf sumsOf requiredOf admitted capitalOf ratioSize ratioOf figuresFor reportFor ratioLine reportText leading digits signed
+unfolding allWithin runOf same after isNumeral valueFrom headerInRange moneyInRange assetInRange amountInRange numberAt afterNumber afterNegative signedAt afterSigned placeOf afterWord headerHeld assetHeld plainHeld signedHeld amountHeld contentOf lineFor lineOf headerFor headerOf headerIn termsOf ceiling assetCharge shareCharge exactAmount exactShare sumOver kindCounts contentKind share assetShare amountShare sumOf sumsOf requiredOf admitted capitalOf ratioSize ratioOf figuresFor reportFor ratioLine reportText leading digits signed
 worked = refl
 
 pub twelve : TwelveExamples

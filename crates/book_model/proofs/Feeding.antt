@@ -16,7 +16,7 @@ use Rattle.line_forms.specs.declared.HeaderLine.{HeaderLine}
 use Rattle.line_forms.specs.declared.HeaderLine.the-variants.{Header as HeaderRead, Refusal as HeaderRefusal}
 use Rattle.line_forms.specs.declared.Line.{Line}
 use Rattle.line_forms.specs.declared.Line.the-variants.{Refusal}
-use Rattle.line_forms.specs.Claims.{refusalOf as lineRefusal, heldBy as lineContent}
+use Rattle.line_forms.specs.Claims.{lineRefusal, lineContent}
 use Rattle.figures.specs.declared.Counts.{Counts}
 use Rattle.figures.specs.declared.Sums.{Sums}
 use Rattle.figures.specs.Sums.{Bounded, InLimits, countsSum, plus, noSums}

@@ -18,7 +18,7 @@ use Rattle.loan_charge.specs.declared.Score.{Score}
 use Rattle.loan_charge.proofs.Promise.{promise}
 use Rattle.line_forms.specs.declared.Content.{Content}
 use Rattle.line_forms.specs.declared.Loan.{Loan}
-use Rattle.line_forms.specs.Claims.{refusalOf as lineRefusal, heldBy as lineContent}
+use Rattle.line_forms.specs.Claims.{lineRefusal, lineContent}
 use Rattle.line_forms.specs.Contents.{onAgedTable}
 use Rattle.line_forms.specs.Readings.{lineOf}
 use Rattle.figures.specs.declared.Sums.{Sums}

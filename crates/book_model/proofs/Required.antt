@@ -5,7 +5,7 @@ use Rattle.exact.specs.Quantity.{Eventually}
 use Rattle.exact.proofs.Quantities.{Exponents, mapped, no-exponents, appended-exponents}
 use Rattle.loan_charge.proofs.ChargeLaws.{total-exponents}
 use Rattle.line_forms.specs.declared.Content.{Content}
-use Rattle.line_forms.specs.Claims.{heldBy as lineContent}
+use Rattle.line_forms.specs.Claims.{lineContent}
 use Rattle.line_forms.specs.Readings.{lineOf}
 use Rattle.figures.specs.Figures.{requiredOf, figuresOf}
 use Rattle.book_model.specs.Accepted.{countsIn}

@@ -5,7 +5,7 @@ use mathlib.Core.List.{List, [], _∷_, _++_, map, map-append}
 use Prim.Native.Nat.{ℕ}
 use lib.Dec.{eqb}
 use Rattle.exact.specs.Choice.{pick}
-use Rattle.line_forms.specs.Claims.{refusalOf as lineRefusal, heldBy as lineContent}
+use Rattle.line_forms.specs.Claims.{lineRefusal, lineContent}
 use Rattle.line_forms.specs.Readings.{lineOf}
 use Rattle.figures.specs.declared.Counts.{Counts}
 use Rattle.figures.specs.declared.Sums.{Sums}

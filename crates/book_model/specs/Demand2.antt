@@ -12,7 +12,7 @@ use Rattle.line_forms.specs.declared.Header.{Header}
 use Rattle.line_forms.specs.declared.Loan.{Loan}
 use Rattle.line_forms.specs.declared.Content.{Content}
 use Rattle.line_forms.specs.declared.Content.the-variants.{Header as header, Loan as loan, Policy as policy, Derivative as derivative, Asset as asset, Amount as amount, NoForm}
-use Rattle.line_forms.specs.Contents.{bytesOf, Written, inRange}
+use Rattle.line_forms.specs.Contents.{bytesOf, Writable, inRange}
 use Rattle.line_forms.specs.Claims.{AfterHeader, NoBytes}
 use Rattle.figures.specs.declared.Counts.{Counts}
 use Rattle.book_model.specs.Accepted.{Accepted, countsIn}
@@ -24,7 +24,7 @@ use Rattle.book_model.specs.Terms.{Terms, termsWith}
 
 -- s is the bytes of data c
 pub record Shows (s : List ℕ) (c : Content) : Type 0 where
-  pub written : Written c
+  pub writable : Writable c
   pub bytes : s ≡ bytesOf c
 
 -- and its numbers are in range

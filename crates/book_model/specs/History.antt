@@ -4,7 +4,7 @@ use mathlib.Core.List.{List, [], _∷_, map}
 use Rattle.line_forms.specs.declared.Header.{Header}
 use Rattle.line_forms.specs.declared.HeaderLine.{HeaderLine}
 use Rattle.line_forms.specs.declared.HeaderLine.the-variants.{Header as HeaderRead, Refusal as HeaderRefusal}
-use Rattle.line_forms.specs.Claims.{heldBy as lineContent}
+use Rattle.line_forms.specs.Claims.{lineContent}
 use Rattle.line_forms.specs.Readings.{lineOf, headerOf}
 use Rattle.figures.specs.declared.Sums.{Sums}
 use Rattle.figures.specs.Sums.{sumOf}

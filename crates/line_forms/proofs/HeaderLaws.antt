@@ -1,12 +1,12 @@
 -- Header reading answers by the rules of 01, when and only when each holds; and a header in range is read from its bytes.
 use Prim.Native.Nat.{ℕ, _≤_, _<_}
 use native.Mathlib.Omega.{arith}
-use mathlib.Core.Path.{_≡_, refl, _∙_, ap, subst}
+use mathlib.Core.Path.{_≡_, refl, sym, _∙_, ap, subst}
 use mathlib.Core.Bool.{Bool, true, false}
 use mathlib.Core.List.{List}
 use borrow.Author.Tests.{lt-ltb, le-ltb, ltb-true, ltb-false}
 use lib.Dec.{ltb}
-use mathlib.Core.Logic.{_↔_, _⊎_, inl, inr}
+use mathlib.Core.Logic.{_↔_, _⊎_, inl, inr, ⊎-elim}
 use lib.ListN.{length}
 use Rattle.exact.specs.Choice.{pick}
 use Rattle.line_forms.specs.Bytes.{within}
@@ -205,3 +205,19 @@ bytes-read = record {
   header-back = λ h r u.
       answers (bytesOf (header h)) (HeaderRead h) (held h (header-written h r u) r u refl);
 }
+
+-- A refusal's number tells the answer, and there is no other number.
+pub refused-header : (r : HeaderLine) (n : ℕ) → headerRefusal r ≡ n → (n ≡ 0 → ⊥) → r ≡ HeaderRefusal n
+refused-header (HeaderRead h) n e z = absurd (z (sym e))
+refused-header (HeaderRefusal m) n e z = ap HeaderRefusal e
+
+pub header-numbers : (s : List ℕ) (n : ℕ) → headerOf s ≡ HeaderRefusal n → (n ≡ 1) ⊎ (n ≡ 2) ⊎ (n ≡ 7) ⊎ (n ≡ 3) ⊎ (n ≡ 4)
+header-numbers s n e =
+    let same : n ≡ headerRefusal (headerOf s) = sym (ap headerRefusal e) in
+    ⊎-elim (λ (h, k, z). absurd (no-header h (sym (ap headerContent e) ∙ k)))
+    (⊎-elim (λ k. inl (same ∙ k)) (⊎-elim (λ k. inr (inl (same ∙ k))) (⊎-elim (λ k. inr (inr (inl (same ∙ k))))
+    (⊎-elim (λ k. inr (inr (inr (inl (same ∙ k))))) (λ k. inr (inr (inr (inr (same ∙ k)))))))))
+    (header-reading s .numbers)
+  where
+    no-header : (h : Header) → NoForm ≡ header h → ⊥
+    no-header h k = let z : _≡_ {A = ℕ} 0 1 = cc in omega arith

@@ -4,7 +4,7 @@ use native.Mathlib.Omega.{arith}
 use mathlib.Core.Path.{_≡_, refl, sym, _∙_, ap, subst}
 use mathlib.Core.Bool.{Bool, true, false}
 use mathlib.Core.List.{List}
-use mathlib.Core.Logic.{_↔_, _⊎_, inl, inr}
+use mathlib.Core.Logic.{_↔_, _⊎_, inl, inr, ⊎-elim}
 use lib.ListN.{length}
 use Rattle.exact.specs.Choice.{pick}
 use Rattle.line_forms.specs.Contents.{bytesOf, Writable, inRange}
@@ -14,7 +14,7 @@ use Rattle.line_forms.specs.declared.Header.{Header}
 use Rattle.line_forms.specs.declared.Content.{Content}
 use Rattle.line_forms.specs.declared.Content.the-variants.{Header as header, Loan as loan, Policy as policy, Derivative as derivative, Asset as asset, Amount as amount, NoForm}
 use Rattle.line_forms.specs.declared.Line.{Line}
-use Rattle.line_forms.specs.declared.Line.the-variants.{Refusal}
+use Rattle.line_forms.specs.declared.Line.the-variants.{Loan as LoanLine, Policy as PolicyLine, Derivative as DerivativeLine, Asset as AssetLine, Amount as AmountLine, Refusal}
 use Rattle.line_forms.proofs.AnswerLaws.{answer-long, answer-none, answer-held, answer-cases}
 
 -- The rules of line reading, one for each answer.
@@ -156,3 +156,19 @@ line-accepted s c a = (
   λ e. line-reading s .accepted c a .0 (ap lineRefusal e ∙ accepted-number c a, ap lineContent e ∙ accepted-data c a),
   λ k. answers s (lineWith c) (held c a (k .0) (k .1) (k .2)),
 )
+
+-- A refusal's number tells the answer, and there is no other number.
+pub refused-line : (r : Line) (n : ℕ) → lineRefusal r ≡ n → (n ≡ 0 → ⊥) → r ≡ Refusal n
+refused-line (LoanLine l) n e z = absurd (z (sym e))
+refused-line (PolicyLine p) n e z = absurd (z (sym e))
+refused-line (DerivativeLine d) n e z = absurd (z (sym e))
+refused-line (AssetLine a) n e z = absurd (z (sym e))
+refused-line (AmountLine a) n e z = absurd (z (sym e))
+refused-line (Refusal m) n e z = ap Refusal e
+
+pub line-numbers : (s : List ℕ) (n : ℕ) → lineOf s ≡ Refusal n → (n ≡ 1) ⊎ (n ≡ 2) ⊎ (n ≡ 7) ⊎ (n ≡ 3)
+line-numbers s n e =
+    let same : n ≡ lineRefusal (lineOf s) = sym (ap lineRefusal e) in
+    ⊎-elim (λ k. absurd (subst (λ (r : Line). AfterHeader (lineContent r)) e (k .0)))
+    (⊎-elim (λ k. inl (same ∙ k)) (⊎-elim (λ k. inr (inl (same ∙ k))) (⊎-elim (λ k. inr (inr (inl (same ∙ k)))) (λ k. inr (inr (inr (same ∙ k)))))))
+    (line-reading s .numbers)
