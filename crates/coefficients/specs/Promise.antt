@@ -3,22 +3,20 @@
 use Prim.Native.Nat.{ℕ, _≤_, min}
 use mathlib.Core.Bool.{Bool}
 use mathlib.Core.Path.{_≡_}
-use Rattle.exact.specs.Fraction.{Fraction, Proper, quotient, _≈_}
+use Rattle.exact.specs.Fraction.{Fraction, quotient, Equals}
 use Rattle.coefficients.specs.Coefficients.{Months, Curve, curveA, curveB, rateC, rateB}
 use Rattle.coefficients.specs.Integers.{scaledA, scaledB, scaledC, tenthsB}
 use Rattle.coefficients.specs.declared.ScaledCurve.{ScaledCurve}
 
 -- x is i / over, and i lies between low and high
 pub record Scaled (over low high : ℕ) (x : Fraction) (i : ℕ) : Type 0 where
-  pub proper : Proper x
-  pub same : x ≈ quotient i over
+  pub is : Equals x (quotient i over)
   pub least : low ≤ i
   pub most : i ≤ high
 
 -- x is (plus - minus) / over, one of the two is 0, and both are bounded
 pub record ScaledSigned (over most-plus most-minus minus : ℕ) (x : Fraction) (plus : ℕ) : Type 0 where
-  pub proper : Proper x
-  pub same : x ≈ record { plus = plus; minus = minus; over = over }
+  pub is : Equals x (record { plus = plus; minus = minus; over = over })
   pub one-sided : min plus minus ≡ 0
   pub plus-most : plus ≤ most-plus
   pub minus-most : minus ≤ most-minus

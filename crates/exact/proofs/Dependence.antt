@@ -3,9 +3,10 @@
 use mathlib.Core.Path.{_≡_}
 use mathlib.Core.List.{List, _++_, List·Memᴰ, Memᴰ·append-left, Memᴰ·append-right}
 use Prim.Native.Nat.{_+_, _*_, _<_}
-use Rattle.exact.specs.Fraction.{Fraction, Proper, negated, _⊕_, _⊗_, Equals, larger}
+use Rattle.exact.specs.Fraction.{Fraction, Proper, negated, reciprocal, _⊕_, _⊗_, _≈_, Equals, larger, smaller}
 use Rattle.exact.specs.Quantity.{Assignment, DependsOn}
 use Rattle.exact.proofs.Fractions
+use Rattle.exact.proofs.Fractions.{Positive}
 
 -- by computation, where x and y are numerals
 pub equals-of : {x y : Fraction} → 0 < x .over → 0 < y .over → x .plus * y .over + y .minus * x .over ≡ y .plus * x .over + x .minus * y .over → Equals x y
@@ -13,6 +14,10 @@ equals-of p q e = record { left = record { positive = p }; right = record { posi
 
 pub equals-refl : {x : Fraction} → Proper x → Equals x x
 equals-refl {x} p = record { left = p; right = p; same = Fractions.same-refl x }
+
+-- the second written another way
+pub equals-as : {x y z : Fraction} → Equals x y → Proper z → y ≈ z → Equals x z
+equals-as h p e = record { left = h .left; right = p; same = Fractions.same-trans (h .right) (h .same) e }
 
 pub equals-sum : {x x′ y y′ : Fraction} → Equals x x′ → Equals y y′ → Equals (x ⊕ y) (x′ ⊕ y′)
 equals-sum h k = record {
@@ -41,6 +46,18 @@ equals-larger h k = record {
   right = Fractions.proper-larger (h .right) (k .right);
   same = Fractions.same-larger (h .left) (h .right) (k .left) (k .right) (h .same) (k .same);
 }
+
+pub equals-smaller : {x x′ y y′ : Fraction} → Equals x x′ → Equals y y′ → Equals (smaller x y) (smaller x′ y′)
+equals-smaller h k = record {
+  left = Fractions.proper-smaller (h .left) (k .left);
+  right = Fractions.proper-smaller (h .right) (k .right);
+  same = Fractions.same-smaller (h .left) (h .right) (k .left) (k .right) (h .same) (k .same);
+}
+
+pub equals-reciprocal : {x y : Fraction} → Equals x y → Positive y → Equals (reciprocal x) (reciprocal y)
+equals-reciprocal h p =
+    let q = Fractions.positive-same (h .right) (h .left) (Fractions.same-sym (h .same)) p in
+    record { left = Fractions.proper-reciprocal q; right = Fractions.proper-reciprocal p; same = Fractions.same-reciprocal q p (h .same) }
 
 module _ {ys : List Fraction} where
   pub depends-constant : {c : Fraction} → Proper c → DependsOn ys (λ x. c)

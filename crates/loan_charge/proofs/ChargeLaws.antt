@@ -7,10 +7,11 @@ use lib.Dec.{leb}
 use Prim.Native.Nat.{ℕ, _+_, _*_, _/_, _^_, _≤_, _<_, max}
 use native.Mathlib.Omega.{arith}
 use native.Mathlib.Nat.{mul-pos, mul-le-mul}
-use Rattle.exact.specs.Fraction.{Fraction, Proper, quotient, whole, _⊕_, _⊖_, _⊗_, _≼_, _≺_, _≈_}
+use Rattle.exact.specs.Fraction.{Fraction, Proper, quotient, whole, negated, _⊕_, _⊖_, _⊗_, _≼_, _≺_, Equals}
 use Rattle.exact.specs.Exponential.{bracketHigh}
 use Rattle.exact.specs.Quantity.{Assignment, Eventually}
 use Rattle.exact.proofs.Fractions
+use Rattle.exact.proofs.Dependence.{equals-of, equals-as, equals-sum, equals-product}
 use Rattle.exact.proofs.Bridge.{At, high-is, high-proper}
 use Rattle.exact.proofs.Quantities.{Exponent, Exponents, at-every-order, mapped, some-allowed, no-exponents, more-exponents, appended-exponents}
 use Rattle.exact.proofs.Sums.{num, den, num-pos}
@@ -32,8 +33,7 @@ use Rattle.fixed_point.specs.declared.Signed.{Signed}
 use Rattle.coefficients.specs.Promise.{Mean, Deviation, ScaledCurveOf}
 use Rattle.coefficients.proofs.CoefficientLaws.{scaled-a, scaled-b, scaled-c, tenths-b}
 use Rattle.loan_charge.proofs.Dependence.{total-determined, supplement-determined}
-use Rattle.loan_charge.proofs.ExactValues.{ValueAt, cents, ratio-is, ratio-proper, exponent-at, curvePlus, curveMinus, curve-proper, curve-is}
-use Rattle.loan_charge.proofs.ExactValues.{base-proper, base-is, rate-proper, rate-is, product-is, sum-is}
+use Rattle.loan_charge.proofs.ExactValues.{cents, ratio-is, exponent-is, curvePlus, curveMinus, curve-is, base-is, rate-is, product-is, sum-is}
 use Rattle.loan_charge.proofs.Gauss.{gauss-near, months-near, value-at, exponentNum, exponentDen}
 use Rattle.loan_charge.proofs.Money.{Value, Both, CentsAbove, CentsBelow, SignedAtMost, both-add, both-times, weighted-near, curves-near}
 use Rattle.loan_charge.proofs.Money.{factor-near, rateNum, rateDen, rate-near, rate-most, rounded-above, rounded-below}
@@ -41,33 +41,25 @@ use Rattle.loan_charge.proofs.Near.{Near}
 use Rattle.loan_charge.proofs.ScaledValue.{held, value-alike}
 use Rattle.loan_charge.proofs.Sizes.{months-in, base-most, sum-most, rate-units-most, supplement-most}
 
--- From an enclosure over natural numbers to one of the fraction itself.
-
-module _ {v : Fraction} {np nm d : ℕ} (pv : Proper v) (pos : 0 < d) (same : v ≈ cents np nm d) (r : Signed) where
-  cents-proper : Proper (cents np nm d)
-  cents-proper = record { positive = omega arith }
-
-  above-exact : CentsAbove r np nm d → v ≼ signedCents r
-  above-exact a = Fractions.at-most-trans cents-proper (Fractions.at-most-of-same same) (record { crossed = omega (arith, a .low) })
-
-  above-near : CentsAbove r np nm d → signedCents r ≺ v ⊕ tolerance
-  above-near a =
-      Fractions.below-at-most
-      (Fractions.proper-sum cents-proper (record { positive = omega arith }))
-      (Fractions.proper-sum pv (record { positive = omega arith }))
-      (record { crossed = omega (arith, a .high) })
-      (Fractions.at-most-sum (Fractions.at-most-of-same (Fractions.same-sym same)) (Fractions.at-most-refl tolerance))
-
-  below-exact : CentsBelow r np nm d → signedCents r ≼ v
-  below-exact b = Fractions.at-most-trans cents-proper (record { crossed = omega (arith, b .high) }) (Fractions.at-most-of-same (Fractions.same-sym same))
-
-  below-near : CentsBelow r np nm d → v ⊖ tolerance ≺ signedCents r
-  below-near b =
-      Fractions.at-most-below
-      (Fractions.proper-sum pv (record { positive = omega arith }))
-      (Fractions.proper-sum cents-proper (record { positive = omega arith }))
-      (Fractions.at-most-sum (Fractions.at-most-of-same same) (Fractions.at-most-refl _))
-      (record { crossed = omega (arith, b .low) })
+-- From enclosures over natural numbers to the fractions themselves.
+module _ {total part : Fraction} {np nm d np' nm' d' : ℕ} (e : Equals total (cents np nm d)) (f : Equals part (cents np' nm' d')) where
+  near-exact : (r : LoanCharge) → CentsAbove (r .total) np nm d → CentsBelow (r .supplement) np' nm' d' → NearExact r total part
+  near-exact r a b =
+      let t : Proper tolerance = record { positive = omega arith } in
+      record {
+        total-proper = e .left;
+        total-at-least = Fractions.at-most-trans (e .right) (Fractions.at-most-of-same (e .same)) (record { crossed = omega (arith, a .low) });
+        total-near =
+            Fractions.below-at-most (Fractions.proper-sum (e .right) t) (Fractions.proper-sum (e .left) t) (record { crossed = omega (arith, a .high) })
+            (Fractions.at-most-sum (Fractions.at-most-of-same (Fractions.same-sym (e .same))) (Fractions.at-most-refl tolerance));
+        supplement-proper = f .left;
+        supplement-at-most =
+            Fractions.at-most-trans (f .right) (record { crossed = omega (arith, b .high) }) (Fractions.at-most-of-same (Fractions.same-sym (f .same)));
+        supplement-near =
+            Fractions.at-most-below (Fractions.proper-sum (f .left) (Fractions.proper-negated t)) (Fractions.proper-sum (f .right) (Fractions.proper-negated t))
+            (Fractions.at-most-sum (Fractions.at-most-of-same (f .same)) (Fractions.at-most-refl (negated tolerance)))
+            (record { crossed = omega (arith, b .low) });
+      }
 
 -- The base in money units near its exact value v in cents; and r near its exact value.
 record BaseNear (x : Signed) (v : Fraction) : Type 0 where
@@ -75,116 +67,69 @@ record BaseNear (x : Signed) (v : Fraction) : Type 0 where
   minus : ℕ
   over : ℕ
   positive : 0 < over
-  proper : Proper v
-  same : v ≈ cents plus minus over
+  is : Equals v (cents plus minus over)
   both : Both x plus minus over 4554 41 3 5
   most : SignedAtMost 119205000000000 27150000000 x
 
 record RateNear (r : ℕ) (v : Fraction) : Type 0 where
   above : ℕ
   over : ℕ
-  positive : 0 < over
-  proper : Proper v
-  same : v ≈ quotient above over
+  is : Equals v (quotient above over)
   near : Near r (2 ^ 40 * above) over 13 3
   most : above ≤ 2 * over
   bound : r ≤ 2 * 2 ^ 40
 
-none-both : Both zeroAmount 0 0 1 0 0 0 0
-none-both = record {
+zero-both : Both zeroAmount 0 0 1 0 0 0 0
+zero-both = record {
   plus-near = record { low = omega arith; high = omega arith };
   minus-near = record { low = omega arith; high = omega arith };
 }
 
+zero-is : Equals (whole 0) (cents 0 0 1)
+zero-is = equals-of (omega arith) (omega arith) (omega arith)
+
 module _ {x : Signed} {v : Fraction} (b : BaseNear x v) where
+  -- v and another amount
+  with-amount : {w : Fraction} {p m o : ℕ} → 0 < o → Equals w (cents p m o) →
+      Equals (v ⊕ w) (cents (b .plus * o + p * b .over) (b .minus * o + m * b .over) (b .over * o))
+  with-amount {p = p} {m} {o} pos e =
+      equals-as (equals-sum (b .is) e) (record { positive = omega (arith, mul-pos (b .positive) pos) }) (sum-is (b .plus) (b .minus) (b .over) p m o)
+
   -- without a supplement
   alone : (r : ℕ) → NearExact (chargeFrom false x r) (v ⊕ whole 0) (whole 0)
   unfolding chargeFrom
   alone r =
-      let pos : 0 < b .over * 1 = omega (arith, b .positive) in
-      let proper : Proper (v ⊕ whole 0) = Fractions.proper-sum (b .proper) (record { positive = omega arith }) in
-      let same : v ⊕ whole 0 ≈ cents (b .plus * 1 + 0 * b .over) (b .minus * 1 + 0 * b .over) (b .over * 1) =
-      Fractions.same-trans
-      (Fractions.proper-sum {x = cents (b .plus) (b .minus) (b .over)} {y = cents 0 0 1} (record { positive = omega (arith, b .positive) })
-      (record { positive = omega arith }))
-      (Fractions.same-sum (b .same) (record { crossed = omega arith }))
-      (sum-is (b .plus) (b .minus) (b .over) 0 0 1) in
-      let above : CentsAbove (roundedUp x zeroAmount) (b .plus * 1 + 0 * b .over) (b .minus * 1 + 0 * b .over) (b .over * 1) =
-      rounded-above x zeroAmount (both-add (b .both) none-both) (omega (arith, b .most .minus)) (omega arith) (omega arith) pos in
-      record {
-        total-proper = proper;
-        total-at-least = above-exact proper pos same (roundedUp x zeroAmount) above;
-        total-near = above-near proper pos same (roundedUp x zeroAmount) above;
-        supplement-proper = record { positive = omega arith };
-        supplement-at-most = record { crossed = omega arith };
-        supplement-near = record { crossed = omega arith };
-      }
+      near-exact {d' = 1} (with-amount (omega arith) zero-is) zero-is (chargeFrom false x r)
+      (rounded-above x zeroAmount (both-add (b .both) zero-both) (omega (arith, b .most .minus)) (omega arith) (omega arith) (omega (arith, b .positive)))
+      (record { high = omega arith; low = omega arith })
 
   module _ {r : ℕ} {s : Fraction} (a : RateNear r s) where
-    -- the supplement's numerators and denominator
-    abbrev sp : ℕ
-    sp = b .plus * a .above
-
-    abbrev sm : ℕ
-    sm = b .minus * a .above
-
+    -- the supplement's denominator
     abbrev so : ℕ
     so = b .over * a .over
 
     so-pos : 0 < so
-    so-pos = mul-pos (b .positive) (a .positive)
+    so-pos = mul-pos (b .positive) (a .is .right .positive)
 
-    supplement-both : Both (times x r) sp sm so (2 * 4554 + 1410) (1 + 2 * 41 + 326) (2 * 3 + 1) (1 + 2 * 5 + 1)
+    supplement-is : Equals (s ⊗ v) (cents (b .plus * a .above) (b .minus * a .above) so)
+    supplement-is =
+        equals-as (equals-product (a .is) (b .is)) (record { positive = omega (arith, so-pos) })
+        (product-is (a .above) (a .over) (b .plus) (b .minus) (b .over))
+
+    supplement-both : Both (times x r) (b .plus * a .above) (b .minus * a .above) so (2 * 4554 + 1410) (1 + 2 * 41 + 326) (2 * 3 + 1) (1 + 2 * 5 + 1)
     supplement-both =
         both-times 119205000000000 27150000000 2 1410 326 1 1 (b .both) (a .near) (b .most .plus) (b .most .minus) (a .most)
         (record { plus-low = omega arith; plus-high = omega arith; minus-low = omega arith; minus-high = omega arith })
 
-    supplement-proper : Proper (s ⊗ v)
-    supplement-proper = Fractions.proper-product (a .proper) (b .proper)
-
-    base-cents-proper : Proper (cents (b .plus) (b .minus) (b .over))
-    base-cents-proper = record { positive = omega (arith, b .positive) }
-
-    supplement-same : s ⊗ v ≈ cents sp sm so
-    supplement-same =
-        Fractions.same-trans
-        (Fractions.proper-product (Fractions.proper-quotient (a .above) (a .positive)) base-cents-proper)
-        (Fractions.same-product (Fractions.proper-quotient (a .above) (a .positive)) (b .proper) (a .same) (b .same))
-        (product-is (a .above) (a .over) (b .plus) (b .minus) (b .over))
-
-    total-proper : Proper (v ⊕ s ⊗ v)
-    total-proper = Fractions.proper-sum (b .proper) supplement-proper
-
-    total-same : v ⊕ s ⊗ v ≈ cents (b .plus * so + sp * b .over) (b .minus * so + sm * b .over) (b .over * so)
-    total-same =
-        Fractions.same-trans
-        (Fractions.proper-sum {y = cents sp sm so} base-cents-proper (record { positive = omega (arith, so-pos) }))
-        (Fractions.same-sum (b .same) supplement-same)
-        (sum-is (b .plus) (b .minus) (b .over) sp sm so)
-
-    total-above : CentsAbove (roundedUp x (times x r)) (b .plus * so + sp * b .over) (b .minus * so + sm * b .over) (b .over * so)
-    total-above =
-        rounded-above x (times x r) (both-add (b .both) supplement-both)
-        (omega (arith, b .most .minus, supplement-most (b .most) (a .bound) .minus))
-        (omega arith) (omega arith) (mul-pos (b .positive) so-pos)
-
-    supplement-below : CentsBelow (roundedDown (times x r)) sp sm so
-    supplement-below =
-        rounded-below (times x r) supplement-both
-        (omega (arith, supplement-most (b .most) (a .bound) .minus))
-        (omega arith) (omega arith) so-pos
-
     -- with one
     together : NearExact (chargeFrom true x r) (v ⊕ s ⊗ v) (s ⊗ v)
     unfolding chargeFrom
-    together = record {
-      total-proper = total-proper;
-      total-at-least = above-exact total-proper (mul-pos (b .positive) so-pos) total-same (roundedUp x (times x r)) total-above;
-      total-near = above-near total-proper (mul-pos (b .positive) so-pos) total-same (roundedUp x (times x r)) total-above;
-      supplement-proper = supplement-proper;
-      supplement-at-most = below-exact supplement-proper so-pos supplement-same (roundedDown (times x r)) supplement-below;
-      supplement-near = below-near supplement-proper so-pos supplement-same (roundedDown (times x r)) supplement-below;
-    }
+    together =
+        let most = supplement-most (b .most) (a .bound) in
+        near-exact (with-amount so-pos supplement-is) supplement-is (chargeFrom true x r)
+        (rounded-above x (times x r) (both-add (b .both) supplement-both) (omega (arith, b .most .minus, most .minus)) (omega arith) (omega arith)
+        (mul-pos (b .positive) so-pos))
+        (rounded-below (times x r) supplement-both (omega (arith, most .minus)) (omega arith) (omega arith) so-pos)
 
 -- u encloses exp(-y) from some order on; y is a / d.
 record Enclosed (u : ℕ) (y : Fraction) : Type 0 where
@@ -198,14 +143,14 @@ record Valued (u : ℕ) (v : Fraction) : Type 0 where
   N : ℕ
   D : ℕ
   value : Value u N D
-  exact : ValueAt v N D
+  exact : Equals v (quotient N D)
 
 valued : {u : ℕ} {y : Fraction} (e : Enclosed u y) (k : ℕ) → e .near .from ≤ k → Valued u (bracketHigh k y)
 valued e k l = record {
   N = den (e .d) k;
   D = num (e .a) (e .d) k;
   value = value-at (e .near) (e .at .positive) k l;
-  exact = record { proper = high-proper (e .at) k; positive = num-pos (e .a) (e .d) (e .at .positive) k; same = high-is (e .at) k };
+  exact = record { left = high-proper (e .at) k; right = record { positive = num-pos (e .a) (e .d) (e .at .positive) k }; same = high-is (e .at) k };
 }
 
 gauss-enclosed : (p q : ℕ) → 0 < q → {mean deviation : Fraction} {i s : ℕ} → Mean mean i → Deviation deviation s →
@@ -214,7 +159,9 @@ unfolding height
 gauss-enclosed p q pos {i = i} {s = s} μ σ = record {
   a = exponentNum (max p q) q i;
   d = exponentDen q s;
-  at = exponent-at (ratio-proper p q pos) (ratio-is p q) pos (μ .proper) (μ .same) (σ .proper) (σ .same) (omega (arith, σ .least));
+  at =
+      let e = exponent-is (ratio-is p q pos) (μ .is) (σ .is) (omega (arith, σ .least)) in
+      record { proper = e .left; positive = e .right .positive; same = e .same };
   near = gauss-near (held p q pos) i s (μ .most) (σ .least) (σ .most);
 }
 
@@ -304,19 +251,16 @@ module _ (l : LoanInputs) (c : Chargeable l) where
       base-near : BaseNear (baseUnits l) (exactBase l exp)
       unfolding baseUnits exactBase
       base-near =
-          let A-proper = curve-proper a-is z exp (v₁ .exact) (v₂ .exact) in
-          let A-same = curve-is a-is z exp (v₁ .exact) (v₂ .exact) in
-          let B-proper = curve-proper b-is z exp (v₃ .exact) (v₄ .exact) in
-          let B-same = curve-is b-is z exp (v₃ .exact) (v₄ .exact) in
-          let A-pos : 0 < v₁ .D * v₂ .D = mul-pos (v₁ .exact .positive) (v₂ .exact .positive) in
-          let B-pos : 0 < v₃ .D * v₄ .D = mul-pos (v₃ .exact .positive) (v₄ .exact .positive) in
+          let pos : 0 < v₁ .D * v₂ .D * (v₃ .D * v₄ .D) =
+          mul-pos (mul-pos (v₁ .exact .right .positive) (v₂ .exact .right .positive)) (mul-pos (v₃ .exact .right .positive) (v₄ .exact .right .positive)) in
           record {
             plus = numerator curvePlus * l .factor;
             minus = numerator curveMinus * l .factor;
             over = v₁ .D * v₂ .D * (v₃ .D * v₄ .D) * 10 ^ 17;
-            positive = omega (arith, mul-pos A-pos B-pos);
-            proper = base-proper A-proper A-same B-proper B-same A-pos B-pos (l .balance) (l .factor);
-            same = base-is A-proper A-same B-proper B-same A-pos B-pos (l .balance) (l .factor);
+            positive = omega (arith, pos);
+            is =
+                base-is (v₁ .D * v₂ .D) (v₃ .D * v₄ .D) (curve-is a-is z exp (v₁ .exact) (v₂ .exact)) (curve-is b-is z exp (v₃ .exact) (v₄ .exact)) pos
+                (l .balance) (l .factor);
             both =
                 both-times 39735000000000 9050000000 3 0 37 0 1 curves-both (factor-near (l .factor))
                 (sum-most l c .plus) (sum-most l c .minus) (c .factor-most)
@@ -329,18 +273,13 @@ module _ (l : LoanInputs) (c : Chargeable l) where
       supplement-rate-near : RateNear (rateUnits l) (exactRate l exp)
       unfolding rateUnits exactRate rateA
       supplement-rate-near =
-          let pos : 0 < l .over = c .divisor-least in
           let C = scaled-c (l .months) (months-in c) first in
           let B = tenths-b (l .months) (months-in c) first in
-          let h = held (l .value) (l .over) pos in
-          let pz = ratio-proper (l .value) (l .over) pos in
-          let sz = ratio-is (l .value) (l .over) in
+          let h = held (l .value) (l .over) (c .divisor-least) in
           record {
             above = rateNum (max (l .value) (l .over)) (l .over) (scaledC first (l .months)) (tenthsB first (l .months)) (v .N) (v .D);
             over = rateDen (l .over) (v .D);
-            positive = omega (arith, mul-pos pos (v .exact .positive));
-            proper = rate-proper pz sz pos (h .value) (C .proper) (C .same) (B .proper) (B .same) (v .exact);
-            same = rate-is pz sz pos (h .value) (C .proper) (C .same) (B .proper) (B .same) (v .exact);
+            is = rate-is (ratio-is (l .value) (l .over) (c .divisor-least)) (h .value) (C .is) (B .is) (v .exact);
             near = rate-near (scaledC first (l .months)) (tenthsB first (l .months)) h (B .most) (v .value);
             most = rate-most (max (l .value) (l .over)) (l .over) (scaledC first (l .months)) (tenthsB first (l .months)) (B .most) (v .value);
             bound = rate-units-most l c;

@@ -1,8 +1,12 @@
 -- Every credit factor lies between 0.01 and 3, under the built-in table and under any other whose rates do.
-use Prim.Native.Nat.{ℕ, zero, suc, _+_, _*_, _≤_, _<_}
+use Prim.Native.Nat.{ℕ, zero, suc, _+_, _*_, _-_, _/_, _≤_, _<_, min}
 use mathlib.Core.Bool.{Bool, true, false}
 use mathlib.Core.List.{List, [], _∷_}
-use native.Mathlib.Nat.{le-of-suc-le-suc, not-suc-le-zero}
+use native.Mathlib.Decide.{decLe}
+use native.Mathlib.Nat.{le-of-suc-le-suc, not-suc-le-zero, div-eq-of-lt-le, div-mul-le-self, lt-div-mul-add}
+use borrow.Author.Tests.{le-leb, lt-leb}
+use mathlib.Core.Path.{_≡_, refl, ap}
+use Rattle.loan_charge.specs.Computation.{limits, reachedOf}
 use native.Mathlib.Omega.{arith}
 use lib.Dec.{T, leb, ltb, leb→le}
 use lib.ListN.{length, getD}
@@ -20,6 +24,36 @@ count-most passes (limit ∷ limits) = go (passes limit) (count-most passes limi
     go : (t : Bool) → count passes limits ≤ length limits → pick t 1 0 + count passes limits ≤ suc (length limits)
     go true h = omega arith
     go false h = omega arith
+
+-- By one division: none below the first limit, else as many as steps from it and one, but no more than there are.
+
+next-step : (a step : ℕ) → 0 < step → (a + step) / step ≡ a / step + 1
+next-step a step h =
+    div-eq-of-lt-le step (omega (arith, div-mul-le-self a step)) (omega (arith, lt-div-mul-add {a = a} {b = step} h))
+
+pub none-reached : (x low step n : ℕ) → x < low → reachedOf x low step n ≡ 0
+unfolding reachedOf count limits
+none-reached x low step zero h = refl
+none-reached x low step (suc n) h = rw (lt-leb low x h) (omega (arith, none-reached x (low + step) step n (omega arith)))
+
+one-more : (x low step n : ℕ) → 0 < step → low ≤ x →
+    (low + step ≤ x → reachedOf x (low + step) step n ≡ min ((x - (low + step)) / step + 1) n) →
+    1 + reachedOf x (low + step) step n ≡ min ((x - low) / step + 1) (suc n)
+one-more x low step n h l rest =
+    elim (decLe (low + step) x) [
+      | yes k ↦
+          let e : x - low ≡ x - (low + step) + step = omega arith in
+          omega (arith, rest k, ap (λ (t : ℕ). t / step) e, next-step (x - (low + step)) step h)
+      | no k ↦
+          let z : (x - low) / step ≡ 0 = div-eq-of-lt-le step (omega arith) (omega arith) in
+          omega (arith, none-reached x (low + step) step n (omega arith), z)
+    ]
+
+pub some-reached : (x low step n : ℕ) → 0 < step → low ≤ x → reachedOf x low step n ≡ min ((x - low) / step + 1) n
+unfolding reachedOf count limits
+some-reached x low step zero h l = omega arith
+some-reached x low step (suc n) h l =
+    rw (le-leb low x l) (one-more x low step n h l (λ k. some-reached x (low + step) step n h k))
 
 pub band-most : (number : ℕ) → band number ≤ 10
 unfolding band

@@ -19,7 +19,7 @@ use Rattle.loan_charge.specs.declared.LoanInputs.{LoanInputs}
 use Rattle.loan_charge.specs.Charge.{ratioOf, exponent1, exponent2, curveValue, exactBase, rateA, exactRate, exactSupplement, exactTotal}
 use Rattle.loan_charge.specs.Charge.{baseExponents, rateExponents, allExponents, totalExponents, supplementExponents, totalQuantity}
 use Rattle.loan_charge.specs.Charge.{supplementQuantity, Chargeable}
-use Rattle.loan_charge.proofs.ExactValues.{ratio-proper}
+use Rattle.loan_charge.proofs.ExactValues.{ratio-is}
 use Rattle.loan_charge.proofs.Sizes.{months-in}
 
 curve-depends : {w p m : ℕ} {curve : Curve} {s : ScaledCurve} → ScaledCurveOf w p m curve s → (z : Fraction) {ys : List Fraction} →
@@ -27,8 +27,8 @@ curve-depends : {w p m : ℕ} {curve : Curve} {s : ScaledCurve} → ScaledCurveO
 unfolding curveValue
 curve-depends {curve = curve} c z k₁ k₂ =
     depends-sum
-    (depends-product (depends-constant (c .weight1 .proper)) (depends-exponential (exponent1 curve z) k₁))
-    (depends-product (depends-constant (c .weight2 .proper)) (depends-exponential (exponent2 curve z) k₂))
+    (depends-product (depends-constant (c .weight1 .is .left)) (depends-exponential (exponent1 curve z) k₁))
+    (depends-product (depends-constant (c .weight2 .is .left)) (depends-exponential (exponent2 curve z) k₂))
 
 -- 0 times an exponential depends on none
 zero-depends : {ys : List Fraction} (y : Fraction) → DependsOn ys (λ x. whole 0 ⊗ x y)
@@ -66,9 +66,9 @@ module _ (l : LoanInputs) (c : Chargeable l) where
   unfolding rateA
   rate-a-proper =
       Fractions.proper-smaller
-      (Fractions.proper-sum (scaled-c (l .months) (months-in c) (firstSet (l .term)) .proper)
+      (Fractions.proper-sum (scaled-c (l .months) (months-in c) (firstSet (l .term)) .is .left)
       (Fractions.proper-product {x = quotient 1 10} (record { positive = omega arith })
-      (Fractions.proper-sum (ratio-proper (l .value) (l .over) (c .divisor-least)) (record { positive = omega arith }))))
+      (Fractions.proper-sum (ratio-is (l .value) (l .over) (c .divisor-least) .left) (record { positive = omega arith }))))
       (record { positive = omega arith })
 
   rate-depends : DependsOn (rateExponents (firstSet (l .term)) (l .months)) (exactRate l)

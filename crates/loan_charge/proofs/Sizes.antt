@@ -9,7 +9,7 @@ use Rattle.exponential.specs.Exponential.{expUpper}
 use Rattle.exponential.proofs.Laws as Exponential
 use Rattle.coefficients.specs.Coefficients.{Curve, firstSet, Months}
 use Rattle.coefficients.specs.Integers.{scaledA, scaledB, scaledC, tenthsB}
-use Rattle.loan_charge.specs.Computation.{exponent, height, heights, Usable, curveUnits, curvesSum, factor, rate, times, ratioUnits, aUnits}
+use Rattle.loan_charge.specs.Computation.{unit, exponent, height, heights, Usable, curveUnits, curvesSum, factor, rate, times, ratioUnits, aUnits}
 use Rattle.loan_charge.specs.Computation.{bUnits, baseUnits, rateUnits}
 use Rattle.loan_charge.specs.Charge.{Chargeable}
 use Rattle.loan_charge.specs.declared.LoanInputs.{LoanInputs}
@@ -19,6 +19,7 @@ use Rattle.loan_charge.specs.declared.charge.LoanCharge.{LoanCharge}
 use Rattle.fixed_point.specs.declared.Signed.{Signed}
 use Rattle.coefficients.specs.Promise.{ScaledCurveOf}
 use Rattle.coefficients.proofs.CoefficientLaws.{scaled-a, scaled-b, tenths-b}
+use Rattle.loan_charge.proofs.ScaledValue.{held}
 use Rattle.loan_charge.proofs.Money.{Weights, AtMostOne, SignedAtMost, weighted-most, curves-most, times-most}
 
 -- Equal values have equal parts.
@@ -66,6 +67,9 @@ curve-most {w} {p} {m} {s = s} h z = weighted-most w p m (weights h) (heights-sm
 
 pub months-in : {l : LoanInputs} → Chargeable l → Months (l .months)
 months-in c = record { least = c .months-least; most = c .months-most }
+
+pub ratio-most : {l : LoanInputs} {w : ℕ} → Chargeable l → w ≡ ratioUnits l → w ≤ 16 * unit
+ratio-most {l} c e = omega (arith, e, held (l .value) (l .over) (c .divisor-least) .most)
 
 pub factor-most : (m : ℕ) → m ≤ 3 * 10 ^ 17 → factor m ≤ 3 * 2 ^ 40
 unfolding factor

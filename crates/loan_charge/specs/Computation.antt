@@ -1,11 +1,14 @@
 -- Need not be believed: Promise.antt says how far these numbers are from the exact ones. A loan's two numbers in fixed point, as the code
 -- computes them. No other crate unfolds these definitions.
-use Prim.Native.Nat.{ℕ, _+_, _*_, _-_, _/_, _^_, _≤_, _<_, min, max}
+use Prim.Native.Nat.{ℕ, zero, suc, _+_, _*_, _-_, _/_, _^_, _≤_, _<_, min, max}
 use mathlib.Core.Bool.{Bool, true, false}
+use mathlib.Core.List.{List, [], _∷_}
+use lib.Dec.{leb}
 use Rattle.fixed_point.specs.Quotient.{scaledProduct}
 use Rattle.exponential.specs.Exponential.{expUpper}
 use Rattle.coefficients.specs.Coefficients.{firstSet}
 use Rattle.coefficients.specs.Integers.{scaledA, scaledB, scaledC, tenthsB}
+use Rattle.loan_charge.specs.CreditFactor.{count}
 use Rattle.loan_charge.specs.declared.LoanInputs.{LoanInputs}
 use Rattle.loan_charge.specs.declared.charge.Heights.{Heights}
 use Rattle.loan_charge.specs.declared.charge.LoanCharge.{LoanCharge}
@@ -144,3 +147,12 @@ chargeFrom false base r = record { total = roundedUp base zeroAmount; supplement
 -- A loan's two numbers: its base plus supplement, and its supplement, in cents.
 unfoldable pub chargeOf : LoanInputs → LoanCharge
 chargeOf l = chargeFrom (l .supplement) (baseUnits l) (rateUnits l)
+
+-- The limits of a table as the code counts them: low, low + step, .., so many
+unfoldable pub limits : (low step count : ℕ) → List ℕ
+limits low step zero = []
+limits low step (suc n) = low ∷ limits (low + step) step n
+
+-- how many of them are at or below x
+unfoldable pub reachedOf : (x low step most : ℕ) → ℕ
+reachedOf x low step most = count (λ limit. leb limit x) (limits low step most)

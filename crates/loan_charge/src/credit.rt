@@ -1,9 +1,8 @@
 // The adjustment factor for credit quality, m, in units of 10^-17.
 use crate::Score;
 ghost use mathlib.Core.Path.{_≡_};
-ghost use Prim.Native.Nat.{_≤_};
-ghost use lib.Dec.{leb};
-ghost use Rattle.exact.specs.Choice.{pick};
+ghost use Prim.Native.Nat.{_<_, _≤_};
+ghost use Rattle.loan_charge.specs.Computation.{reachedOf};
 ghost use Rattle.loan_charge.specs.CreditFactor.{band, column, columnServing, builtInRates, scoredFactor, unscoredFactor, creditFactor};
 
 // How many rates a table has: eleven bands of scores, six ages each.
@@ -85,32 +84,28 @@ pub fn rates() -> Rates
     ]
 }
 
-// 1 where the number reaches the limit, else 0.
-fn reaches(x: u64, limit: u64) -> usize
-    ensures { λ r. ⌜ (r ≡ pick (leb limit x) 1 0) × (r ≤ 1) ⌝ }
+// How many of the limits low, low + step, .., of which there are `most`, are at or below x: by one division, with no test of each.
+fn reached(x: u64, low: u64, step: u64, most: u64) -> u64
+    requires { ⌜ (0 < low) × (0 < step) ⌝ }
+    ensures { λ r. ⌜ (r ≡ reachedOf x low step most) × (r ≤ most) ⌝ }
 {
-    if limit <= x { 1 } else { 0 }
+    if x < low {
+        return 0;
+    }
+    let n = (x - low) / step + 1;
+    if most < n { most } else { n }
 }
 
 fn band(number: u64) -> usize
     ensures { λ r. ⌜ (r ≡ band number) × (r ≤ 10) ⌝ }
 {
-    reaches(number, 600)
-        + reaches(number, 620)
-        + reaches(number, 640)
-        + reaches(number, 660)
-        + reaches(number, 680)
-        + reaches(number, 700)
-        + reaches(number, 720)
-        + reaches(number, 740)
-        + reaches(number, 760)
-        + reaches(number, 780)
+    reached(number, 600, 20, 10) as usize
 }
 
 fn column(age: u64) -> usize
     ensures { λ r. ⌜ (r ≡ column age) × (r ≤ 5) ⌝ }
 {
-    reaches(age, 13) + reaches(age, 25) + reaches(age, 37) + reaches(age, 49) + reaches(age, 61)
+    reached(age, 13, 12, 5) as usize
 }
 
 fn column_serving(aged: bool, age: u64) -> usize

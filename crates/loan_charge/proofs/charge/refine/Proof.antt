@@ -30,13 +30,15 @@ division-step-requires-5 : tie.Need-division-step-requires-5
 division-step-requires-5 c κs =
     let s = c .before .before .before .before in
     let b = begun (s .args .q) (s .args .d) (s .pre .1) in
-    step-fits 512 (step₄ b (c .before .before .before .division-step .ensures) (c .before .before .division-step2 .ensures) (c .before .division-step3 .ensures) (c .division-step4 .ensures))
+    step-fits 512 (step₄ b (c .before .before .before .division-step .ensures) (c .before .before .division-step2 .ensures)
+    (c .before .division-step3 .ensures) (c .division-step4 .ensures))
     (begun-bound (s .args .q) (s .args .d) (s .pre .1) (s .pre .0)) (omega arith) (omega arith) (omega arith)
 
 returns : tie.Need-returns
 returns c =
     let s = c .before .before .before .before .before in
-    quotient-is (step₅ (begun (s .args .q) (s .args .d) (s .pre .1)) (c .before .before .before .before .division-step .ensures) (c .before .before .before .division-step2 .ensures) (c .before .before .division-step3 .ensures)
+    quotient-is (step₅ (begun (s .args .q) (s .args .d) (s .pre .1)) (c .before .before .before .before .division-step .ensures)
+    (c .before .before .before .division-step2 .ensures) (c .before .before .division-step3 .ensures)
     (c .before .division-step4 .ensures) (c .division-step5 .ensures))
 
 pub refine-spec : {M : Type 1} → statement M
