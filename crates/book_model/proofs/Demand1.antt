@@ -3,7 +3,8 @@ use mathlib.Core.Path.{_≡_, refl, sym}
 use mathlib.Core.Bool.{Bool, true, false}
 use mathlib.Core.List.{List, [], _∷_, List·Memᴰ, List·Memᴰ·head, List·Memᴰ·tail}
 use mathlib.Core.Logic.{_⊎_, ⊎-elim}
-use Prim.Native.Nat.{ℕ}
+use Prim.Native.Nat.{ℕ, _≤_}
+use native.Mathlib.Omega.{arith}
 use lib.Dec.{eqb, ltb, leb}
 use borrow.Author.Tests.{eqb-true}
 use lib.ListN.{length}
@@ -15,10 +16,12 @@ use Rattle.line_forms.specs.declared.Line.the-variants.{Loan as LoanLine, Polic
 use Rattle.line_forms.specs.Readings.{lineOf, headerOf}
 use Rattle.line_forms.proofs.HeaderLaws.{header-numbers}
 use Rattle.line_forms.proofs.LineLaws.{line-numbers}
-use Rattle.figures.specs.Sums.{plus}
+use Rattle.figures.specs.Figures.{figuresOf}
+use Rattle.figures.proofs.FiguresLaws.{figures-bounded}
+use Rattle.book_report.proofs.Lengths.{report-most}
 use Rattle.book_model.specs.declared.Book.{Book}
 use Rattle.book_model.specs.Accepted.{mostOther, loanBeyond, refusalFor}
-use Rattle.book_model.specs.Calls.{State, termsIn, stateAt, openingFor, opening, refusalIn, bookAfter, feedingLine, feeding, tooFew, closingWith, closing, closed, reportSize, reportOf}
+use Rattle.book_model.specs.Calls.{State, termsIn, stateAt, openingFor, opening, refusalIn, bookAfter, feedingLine, feeding, tooFew, closingWith, closing, closed, reportSize, reportOf, SoundBook}
 use Rattle.book_model.specs.Demand1.{refusedState, Demand1}
 use Rattle.book_model.specs.LineKinds.{contentKind, kindOf}
 use Rattle.book_model.proofs.Closings.{untouched}
@@ -77,6 +80,11 @@ refused-feeding s l n = go (eqb (refusalIn s l) 0) _ refl
     go true b e = absurd (n (eqb-true (refusalIn s l) 0 e))
     go false b e = refl
 
+report-fits : (b : Book) → SoundBook b → length (reportOf b) ≤ 512
+report-fits b h =
+    let bounds = figures-bounded (b .header .held) (b .sums) (h .bounded) (record { loans = omega (arith, h .loans, h .header-loans); other = h .other }) in
+    omega (arith, report-most (figuresOf (b .header .held) (b .sums)) bounds)
+
 pub demand1 : Demand1
 unfolding closingWith feedingLine
 demand1 = record {
@@ -86,6 +94,7 @@ demand1 = record {
   refused-opening = λ line. refused-opening (headerOf line);
   refused-feeding = λ s line. refused-feeding s (lineOf line);
   refused-closing = λ b buffer n. untouched reportSize b (reportOf b) buffer n;
+  report-fits = report-fits;
   opening-sound = λ line. feeding-laws.opening-sound (headerOf line) (ranged-header line);
   feeding-sound = λ s line h. feeding-laws.fed-sound s (lineOf line) h (ranged line);
 }

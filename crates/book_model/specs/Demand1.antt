@@ -1,6 +1,6 @@
 -- Demand 1: a book handed in is taken or turned down by a numbered refusal; a refused line changes nothing in the book, and a refused closing
 -- writes nothing. Over the definitions that the contracts equate with the calls (Calls.antt); proved in proofs/Demand1.antt.
-use Prim.Native.Nat.{ℕ}
+use Prim.Native.Nat.{ℕ, _≤_}
 use mathlib.Core.Path.{_≡_}
 use mathlib.Core.Bool.{false}
 use mathlib.Core.List.{List, [], _∷_, List·Memᴰ}
@@ -8,7 +8,7 @@ use lib.ListN.{length}
 use Rattle.figures.specs.Sums.{noSums}
 use Rattle.loan_charge.specs.CreditFactor.{builtInRates}
 use Rattle.book_model.specs.declared.Book.{Book}
-use Rattle.book_model.specs.Calls.{State, Sound, opening, feeding, closing, closed}
+use Rattle.book_model.specs.Calls.{State, SoundBook, Sound, opening, feeding, reportOf, closing, closed}
 
 -- The value of a refused opening: an all-zero header and no line taken, under the regulator's table.
 abbrev pub refusedState : State
@@ -26,6 +26,8 @@ pub record Demand1 : Type 0 where
   pub refused-opening : (line : List ℕ) → (opening line .refusal ≡ 0 → ⊥) → opening line .state ≡ refusedState
   pub refused-feeding : (s : State) (line : List ℕ) → (feeding s line .refusal ≡ 0 → ⊥) → feeding s line .state ≡ s
   pub refused-closing : (b : Book) (buffer : List ℕ) → (closing b (length buffer) .refusal ≡ 0 → ⊥) → closed b buffer ≡ buffer
+  -- The longest report fits the least buffer that closing takes.
+  pub report-fits : (b : Book) → SoundBook b → length (reportOf b) ≤ 512
   -- What a call gives may be handed to the next.
   pub opening-sound : (line : List ℕ) → Sound (opening line .state)
   pub feeding-sound : (s : State) (line : List ℕ) → Sound s → Sound (feeding s line .state)

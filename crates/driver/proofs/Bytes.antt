@@ -13,16 +13,22 @@ use Rattle.bytes.specs.Bytes.{indexOf}
 use Rattle.line_forms.specs.declared.Line.the-variants.{Refusal}
 use Rattle.line_forms.specs.declared.HeaderLine.the-variants.{Refusal as HeaderRefusal}
 use Rattle.line_forms.specs.Readings.{lineOf, headerOf}
-use Rattle.line_forms.proofs.HeaderLaws.{header-reading}
-use Rattle.line_forms.proofs.LineLaws.{line-reading}
+use Rattle.line_forms.proofs.HeaderLaws.{header-reading, refused-header}
+use Rattle.line_forms.proofs.LineLaws.{line-reading, refused-line}
 use Rattle.driver.specs.Reading.{Stage, Reading, newline, unbroken, withLine, withByte, withBytes, withTail}
 use Rattle.driver.proofs.FirstNewline.{unbroken-append, index-unbroken, index-at}
 
 -- Of a line over 240 bytes the first 241 read the same.
 
+pub long-line : (s : List ℕ) → 240 < length s → lineOf s ≡ Refusal 1
+long-line s h = refused-line (lineOf s) 1 (line-reading s .refused1 .1 h) (λ z. omega (arith, z))
+
+pub long-header : (s : List ℕ) → 240 < length s → headerOf s ≡ HeaderRefusal 1
+long-header s h = refused-header (headerOf s) 1 (header-reading s .refused1 .1 h) (λ z. omega (arith, z))
+
 pub long-same : (p : Stage) (s t : List ℕ) → 240 < length s → 240 < length t → withLine p s ≡ withLine p t
 unfolding withLine
-long-same p s t h k = rw (line-reading s .refused1 .1 h, line-reading t .refused1 .1 k, header-reading s .refused1 .1 h, header-reading t .refused1 .1 k) refl
+long-same p s t h k = rw (long-line s h, long-line t k, long-header s h, long-header t k) refl
 
 pub cut-same : (p : Stage) (s : List ℕ) → withLine p (take 241 s) ≡ withLine p s
 cut-same p s = go (ltb 240 (length s)) refl

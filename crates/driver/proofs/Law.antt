@@ -14,15 +14,13 @@ use Rattle.report.specs.Line.{refusalLine}
 use Rattle.line_forms.specs.declared.Line.the-variants.{Refusal}
 use Rattle.line_forms.specs.declared.HeaderLine.the-variants.{Refusal as HeaderRefusal}
 use Rattle.line_forms.specs.Readings.{lineOf, headerOf}
-use Rattle.line_forms.proofs.HeaderLaws.{header-reading}
-use Rattle.line_forms.proofs.LineLaws.{line-reading}
 use Rattle.book_model.specs.Accepted.{refusalFor}
 use Rattle.book_model.specs.Calls.{State, Answer, openingFor, opening, feedingLine, feeding}
 use Rattle.book_model.specs.LineKinds.{contentKind}
 use Rattle.driver.specs.Program.{Settled}
 use Rattle.driver.specs.Reading.{Stage, Reading, atStart, fromStart, after, newline, withTail, withLine, withByte, withBytes}
 use Rattle.driver.proofs.LineLaws.{line-refused, line-opens, line-fed}
-use Rattle.driver.proofs.Bytes.{cut-same, take-front, bytes-append}
+use Rattle.driver.proofs.Bytes.{long-line, long-header, cut-same, take-front, bytes-append}
 use Rattle.driver.proofs.Answers.{printed-refused, printed-empty, printed-end}
 use Rattle.driver.specs.Printed.{lastOf, linesFrom, linesOf, printedFeeding, printedLines, printed, printedFor, endedWith, ended}
 
@@ -126,8 +124,8 @@ unfolding withLine openingFor feedingLine refusalFor contentKind
 long-refused p line h = go (eqb (p .refusal) 0) refl (eqb (p .number) 1)
   where
     go : (a : Bool) → eqb (p .refusal) 0 ≡ a → (b : Bool) → pick {A = Stage} a (after (pick b (opening line) (feeding (p .state) line)) (p .number)) p .refusal ≡ 0 → ⊥
-    go true f true e = let k : openingFor (HeaderRefusal 1) .refusal ≡ 0 = rw (header-reading line .refused1 .1 h) at e in omega (arith, k)
-    go true f false e = let k : feedingLine (p .state) (Refusal 1) .refusal ≡ 0 = rw (line-reading line .refused1 .1 h) at e in omega (arith, k)
+    go true f true e = let k : openingFor (HeaderRefusal 1) .refusal ≡ 0 = rw (long-header line h) at e in omega (arith, k)
+    go true f false e = let k : feedingLine (p .state) (Refusal 1) .refusal ≡ 0 = rw (long-line line h) at e in omega (arith, k)
     go false f b e = eqb-false (p .refusal) 0 f e
 
 ended-long : (p : Stage) (line : List ℕ) → 240 < length line → endedWith p line ≡ withLine p line
