@@ -6,7 +6,8 @@ ghost use lib.ListN.{length, drop, getD};
 ghost use Rattle.line_forms.specs.Bytes.{same as sameBytes, standsAt, after, past, runOf, within, allWithin};
 ghost use Rattle.line_forms.specs.Forms.{choicesOf};
 ghost use Rattle.line_forms.specs.Numerals.{mostDigits, valueFrom};
-ghost use Rattle.line_forms.specs.Parsing.{digitsAt, numberAt, afterNumber, minusAt, signedAt, afterSigned, negativeAt, afterNegative, placeOf, afterWord, lettersAt, scoreAt, afterScore};
+ghost use Rattle.line_forms.specs.Parsing.{digitsAt, numberAt, afterNumber, minusAt, signedAt, afterSigned, negativeAt, afterNegative, placeOf};
+ghost use Rattle.line_forms.specs.Parsing.{afterWord, lettersAt, scoreAt, afterScore};
 use fixed_point::Signed;
 use loan_charge::Score;
 

@@ -42,7 +42,9 @@ module _ {R : Type 0} (long : R) (f : Content → R) (s : List ℕ) where
   answer-held c w e =
       answer-short (omega (arith, content-size c w, ap length e)) ∙ ap f (content-written s c w e)
 
-  pub answer-cases : (P : R → Type 0) → (240 < length s → P long) → (length s ≤ 240 → NoBytes s → P (f NoForm)) → ((c : Content) → Writable c → s ≡ bytesOf c → P (f c)) → P (answerOf long f s)
+  pub answer-cases :
+      (P : R → Type 0) → (240 < length s → P long) → (length s ≤ 240 → NoBytes s → P (f NoForm)) →
+      ((c : Content) → Writable c → s ≡ bytesOf c → P (f c)) → P (answerOf long f s)
   answer-cases P a b h = elim (decLt 240 (length s)) [ yes l ↦ rw (answer-long l) (a l) | no l ↦ short (omega arith) ]
     where
       short : length s ≤ 240 → P (answerOf long f s)

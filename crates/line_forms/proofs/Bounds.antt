@@ -7,7 +7,8 @@ use mathlib.Core.Logic.{_⊎_}
 use Rattle.loan_charge.specs.declared.Score.{Score}
 use Rattle.loan_charge.specs.declared.Score.the-variants.{Scored, Unscored}
 use Rattle.line_forms.specs.Bytes.{within}
-use Rattle.line_forms.specs.Contents.{headerInRange, scoreInRange, loanInRange, policyInRange, moneyInRange, derivativeInRange, assetInRange, amountInRange, inRange, SignFits}
+use Rattle.line_forms.specs.Contents.{headerInRange, scoreInRange, loanInRange, policyInRange, moneyInRange, derivativeInRange, assetInRange}
+use Rattle.line_forms.specs.Contents.{amountInRange, inRange, SignFits}
 use Rattle.line_forms.specs.Readings.{lineOf, headerOf}
 use Rattle.fixed_point.specs.declared.Signed.{Signed}
 use Rattle.line_forms.specs.declared.Header.{Header}
@@ -16,8 +17,10 @@ use Rattle.line_forms.specs.declared.Policy.{Policy}
 use Rattle.line_forms.specs.declared.Derivative.{Derivative}
 use Rattle.line_forms.specs.declared.Asset.{Asset}
 use Rattle.line_forms.specs.declared.Amount.{Amount}
-use Rattle.line_forms.specs.declared.Content.the-variants.{Header as header, Loan as loan, Policy as policy, Derivative as derivative, Asset as asset, Amount as amount}
-use Rattle.line_forms.specs.declared.Line.the-variants.{Loan as LoanLine, Policy as PolicyLine, Derivative as DerivativeLine, Asset as AssetLine, Amount as AmountLine}
+use Rattle.line_forms.specs.declared.Content.the-variants.{Header as header, Loan as loan, Policy as policy, Derivative as derivative}
+use Rattle.line_forms.specs.declared.Content.the-variants.{Asset as asset, Amount as amount}
+use Rattle.line_forms.specs.declared.Line.the-variants.{Loan as LoanLine, Policy as PolicyLine, Derivative as DerivativeLine}
+use Rattle.line_forms.specs.declared.Line.the-variants.{Asset as AssetLine, Amount as AmountLine}
 use Rattle.line_forms.specs.declared.HeaderLine.the-variants.{Header as HeaderRead}
 use Rattle.line_forms.proofs.Bytes.{and-both, within-bounds}
 use Rattle.line_forms.proofs.LineLaws.{line-accepted}

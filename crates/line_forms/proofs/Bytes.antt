@@ -4,9 +4,9 @@ use native.Mathlib.Nat.{sub-self}
 use native.Mathlib.Numerals.{add-one}
 use native.Mathlib.Omega.{arith}
 use mathlib.Core.Path.{_≡_, refl, sym, _∙_, ap}
-use mathlib.Core.Bool.{Bool, true, false, _&&_, _||_}
+use mathlib.Core.Bool.{Bool, true, false, _&&_, _||_, not}
 use mathlib.Core.List.{List, [], _∷_, _++_}
-use borrow.Author.Tests.{eq-eqb, eqb-true, leb-true, leb-false, le-leb, lt-leb}
+use borrow.Author.Tests.{not-true, not-false, eq-eqb, eqb-true, leb-true, leb-false, le-leb, lt-leb}
 use lib.Dec.{eqb, leb}
 use lib.ListN.{length, take, drop, getD, drop-of-length-le, length-drop, length-append, take-append-drop}
 use lib.Seq.{drop-cons, take-suc, getD-drop, drop-drop, drop-append-seam, take-append-seam}
@@ -18,6 +18,13 @@ pub false-and : (a : Bool) → (a && false) ≡ false
 false-and true = refl
 false-and false = refl
 
+-- what a branch on the opposite of an answer r tells of the test q that it is
+pub told-true : {r q : Bool} → r ≡ q → not r ≡ false → q ≡ true
+told-true {r} e l = sym e ∙ not-false r l
+
+pub told-false : {r q : Bool} → r ≡ q → not r ≡ true → q ≡ false
+told-false {r} e l = sym e ∙ not-true r l
+
 pub and-both : (a b : Bool) → (a && b) ≡ true → (a ≡ true) × (b ≡ true)
 and-both true b h = (refl, h)
 and-both false b h = let z : _≡_ {A = ℕ} 0 1 = cc in absurd (omega (arith, z))
@@ -27,7 +34,9 @@ or-false true b h = let z : _≡_ {A = ℕ} 0 1 = cc in absurd (omega (arith, z)
 or-false false b h = (refl, h)
 
 -- byte strings compared to a place, and one place more
-pub same-step : (a b : List ℕ) (i : ℕ) → i < length a → i < length b → same (drop i a) (drop i b) ≡ (eqb (getD a i 0) (getD b i 0) && same (drop (i + 1) a) (drop (i + 1) b))
+pub same-step :
+    (a b : List ℕ) (i : ℕ) → i < length a → i < length b →
+    same (drop i a) (drop i b) ≡ (eqb (getD a i 0) (getD b i 0) && same (drop (i + 1) a) (drop (i + 1) b))
 unfolding same
 same-step a b i ha hb = rw (add-one, drop-cons a i 0 ha, drop-cons b i 0 hb)
 
@@ -44,7 +53,9 @@ and-true true = refl
 and-true false = refl
 
 -- bytes in a range, one place more
-pub all-step : (low high : ℕ) (t : List ℕ) (i : ℕ) → i < length t → allWithin low high (drop i t) ≡ (within low high (getD t i 0) && allWithin low high (drop (i + 1) t))
+pub all-step :
+    (low high : ℕ) (t : List ℕ) (i : ℕ) → i < length t →
+    allWithin low high (drop i t) ≡ (within low high (getD t i 0) && allWithin low high (drop (i + 1) t))
 unfolding allWithin
 all-step low high t i h = rw (add-one, drop-cons t i 0 h)
 
@@ -76,7 +87,9 @@ same-refl [] = refl
 same-refl (x ∷ s) = rw (eq-eqb x x refl, same-refl s)
 
 -- a run goes on over a byte in range and stops at any other
-pub run-step : (low high : ℕ) (s : List ℕ) (i : ℕ) → i < length s → within low high (getD s i 0) ≡ true → runOf low high (drop i s) ≡ getD s i 0 ∷ runOf low high (drop (i + 1) s)
+pub run-step :
+    (low high : ℕ) (s : List ℕ) (i : ℕ) → i < length s → within low high (getD s i 0) ≡ true →
+    runOf low high (drop i s) ≡ getD s i 0 ∷ runOf low high (drop (i + 1) s)
 unfolding runOf
 run-step low high s i h e = rw (add-one, drop-cons s i 0 h, e)
 
@@ -146,7 +159,9 @@ unfolding runOf
 run-split low high [] = refl
 run-split low high (b ∷ s) = go (within low high b) (run-split low high s)
   where
-    go : (q : Bool) → s ≡ runOf low high s ++ drop (length (runOf low high s)) s → b ∷ s ≡ pick q (b ∷ runOf low high s) [] ++ drop (length (pick q (b ∷ runOf low high s) [])) (b ∷ s)
+    go :
+        (q : Bool) → s ≡ runOf low high s ++ drop (length (runOf low high s)) s →
+        b ∷ s ≡ pick q (b ∷ runOf low high s) [] ++ drop (length (pick q (b ∷ runOf low high s) [])) (b ∷ s)
     go true e = ap (λ (t : List ℕ). b ∷ t) e
     go false e = refl
 
@@ -175,7 +190,10 @@ all-append low high (b ∷ s) t h k =
     rw (e .0) (all-append low high s t (e .1) k)
 
 -- A part of bytes in range is the run where the byte after it is in range no longer; and one byte more.
-pub part-run : (low high : ℕ) (s : List ℕ) (at end : ℕ) → at ≤ end → end < length s → allWithin low high (take (end - at) (drop at s)) ≡ true → within low high (getD s end 0) ≡ false → take (end - at) (drop at s) ≡ runOf low high (drop at s)
+pub part-run :
+    (low high : ℕ) (s : List ℕ) (at end : ℕ) → at ≤ end → end < length s →
+    allWithin low high (take (end - at) (drop at s)) ≡ true → within low high (getD s end 0) ≡ false →
+    take (end - at) (drop at s) ≡ runOf low high (drop at s)
 part-run low high s at end l h a e =
     let k : at + (end - at) ≡ end = omega arith in
     let t = take (end - at) (drop at s) in
@@ -187,7 +205,10 @@ pub part-empty : (low high : ℕ) (s : List ℕ) (at : ℕ) → allWithin low hi
 unfolding allWithin
 part-empty low high s at = rw (sub-self at)
 
-pub part-longer : (low high : ℕ) (s : List ℕ) (at end next : ℕ) → next ≡ end + 1 → at ≤ end → end < length s → allWithin low high (take (end - at) (drop at s)) ≡ true → within low high (getD s end 0) ≡ true → allWithin low high (take (next - at) (drop at s)) ≡ true
+pub part-longer :
+    (low high : ℕ) (s : List ℕ) (at end next : ℕ) → next ≡ end + 1 → at ≤ end → end < length s →
+    allWithin low high (take (end - at) (drop at s)) ≡ true → within low high (getD s end 0) ≡ true →
+    allWithin low high (take (next - at) (drop at s)) ≡ true
 unfolding allWithin
 part-longer low high s at end next n l h a e =
     rw (n, part-more s at end l h)

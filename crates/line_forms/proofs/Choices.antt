@@ -29,7 +29,9 @@ unfolding runOf
 first-choice [] = refl
 first-choice (b ∷ t) = go (within 0 123 b) (first-choice t)
   where
-    go : (q : Bool) → choicesOf t ≡ runOf 0 123 t ∷ others (drop (length (runOf 0 123 t)) t) → pick q (longer b (choicesOf t)) ([] ∷ choicesOf t) ≡ pick q (b ∷ runOf 0 123 t) [] ∷ others (drop (length (pick q (b ∷ runOf 0 123 t) [])) (b ∷ t))
+    go :
+        (q : Bool) → choicesOf t ≡ runOf 0 123 t ∷ others (drop (length (runOf 0 123 t)) t) →
+        pick q (longer b (choicesOf t)) ([] ∷ choicesOf t) ≡ pick q (b ∷ runOf 0 123 t) [] ∷ others (drop (length (pick q (b ∷ runOf 0 123 t) [])) (b ∷ t))
     go true e = ap (longer b) e
     go false e = refl
 
@@ -73,7 +75,9 @@ module _ {w t : List ℕ} {place i : ℕ} (h : Sought w t place i) where
       let k = next-choice t i n l e in
       record { found = h .found ∙ rw (k, d) (omega arith); count = h .count ∙ rw k (omega arith) }
 
-  pub word-found : (s : List ℕ) (at : ℕ) → w ≡ lettersAt s at → i ≤ length t → same w (runOf 0 123 (drop i t)) ≡ true → (place ≡ placeOf (lettersAt s at) (choicesOf t)) × (at + length w ≡ afterWord (choicesOf t) s at)
+  pub word-found :
+      (s : List ℕ) (at : ℕ) → w ≡ lettersAt s at → i ≤ length t → same w (runOf 0 123 (drop i t)) ≡ true →
+      (place ≡ placeOf (lettersAt s at) (choicesOf t)) × (at + length w ≡ afterWord (choicesOf t) s at)
   unfolding placeOf afterWord
   word-found s at e l d =
       let k = next-choice t i (length (runOf 0 123 (drop i t))) l refl in
@@ -81,7 +85,9 @@ module _ {w t : List ℕ} {place i : ℕ} (h : Sought w t place i) where
       let n : place < length (choicesOf t) = rw (h .count, k) (omega arith) in
       (rw (← e) (sym p), rw (← e, p, lt-ltb place (length (choicesOf t)) n))
 
-  pub word-missing : (s : List ℕ) (at : ℕ) → w ≡ lettersAt s at → length t < i → (place ≡ placeOf (lettersAt s at) (choicesOf t)) × (past s ≡ afterWord (choicesOf t) s at)
+  pub word-missing :
+      (s : List ℕ) (at : ℕ) → w ≡ lettersAt s at → length t < i →
+      (place ≡ placeOf (lettersAt s at) (choicesOf t)) × (past s ≡ afterWord (choicesOf t) s at)
   unfolding placeOf afterWord
   word-missing s at e l =
       let k = no-choice t i l in

@@ -13,8 +13,12 @@ use Rattle.line_forms.specs.Bytes.{past, standsAt, after, runOf, same, a
 use Rattle.line_forms.specs.Numerals.{limit}
 use Rattle.line_forms.specs.Forms.{Form, Values, AllWritable, formText}
 use Rattle.line_forms.specs.Parsing.{valuesAt, afterForm, hasForm, lettersAt, placeOf}
-use Rattle.line_forms.specs.Contents.{headerForm, headerValues, loanForm, loanValues, policyForm, policyValues, classPlace, derivativeForm, derivativeValues, kindPlace, assetForm, assetValues, plainForm, signedForm, amountForm, amountValues, bytesOf, SignFits, Writable}
-use Rattle.line_forms.specs.Readings.{headerWith, loanWith, policyWith, classAt, derivativeWith, kindAt, assetWith, unsigned, headerHeld, loanHeld, policyHeld, derivativeHeld, assetHeld, plainHeld, signedHeld, names, amountHeld, heldAs, contentOf}
+use Rattle.line_forms.specs.Contents.{headerForm, headerValues, loanForm, loanValues, policyForm, policyValues, classPlace, derivativeForm}
+use Rattle.line_forms.specs.Contents.{derivativeValues, kindPlace, assetForm, assetValues, plainForm, signedForm, amountForm, amountValues}
+use Rattle.line_forms.specs.Contents.{bytesOf, SignFits, Writable}
+use Rattle.line_forms.specs.Readings.{headerWith, loanWith, policyWith, classAt, derivativeWith, kindAt, assetWith, unsigned, headerHeld}
+use Rattle.line_forms.specs.Readings.{loanHeld, policyHeld, derivativeHeld, assetHeld, plainHeld, signedHeld, names, amountHeld, heldAs}
+use Rattle.line_forms.specs.Readings.{contentOf}
 use Rattle.fixed_point.specs.declared.Signed.{Signed}
 use Rattle.line_forms.specs.declared.Header.{Header}
 use Rattle.line_forms.specs.declared.Loan.{Loan}
@@ -28,7 +32,8 @@ use Rattle.line_forms.specs.declared.Asset.{Asset}
 use Rattle.line_forms.specs.declared.Item.{Item}
 use Rattle.line_forms.specs.declared.Item.the-variants.{Claims, Lossc, Stated, Equity as EquityItem, Aoci, B, C}
 use Rattle.line_forms.specs.declared.Content.{Content}
-use Rattle.line_forms.specs.declared.Content.the-variants.{Header as header, Loan as loan, Policy as policy, Derivative as derivative, Asset as asset, Amount as amount, NoForm}
+use Rattle.line_forms.specs.declared.Content.the-variants.{Header as header, Loan as loan, Policy as policy, Derivative as derivative}
+use Rattle.line_forms.specs.declared.Content.the-variants.{Asset as asset, Amount as amount, NoForm}
 use Rattle.line_forms.proofs.Bytes.{run-exact, Stands, text-cases, stands-fits, after-true}
 use Rattle.line_forms.proofs.FieldLaws.{among, spelled}
 use Rattle.line_forms.proofs.FormLaws.{stops, proper, form-of, form-has, firstText, later, proper-later, form-stops}
@@ -96,7 +101,10 @@ unfolding stops
 proper-signed t = refl
 
 -- what is read of a form that the line has
-held-right : (f : Form) (s : List ℕ) (make : Values f → Content) (other : Content) → proper f ≡ true → ((v : Values f) → (s ≡ formText f v) × AllWritable f v → Right s (make v)) → Right s other → Right s (pick (hasForm f s) (make (valuesAt f s 0)) other)
+held-right :
+    (f : Form) (s : List ℕ) (make : Values f → Content) (other : Content) → proper f ≡ true →
+    ((v : Values f) → (s ≡ formText f v) × AllWritable f v → Right s (make v)) → Right s other →
+    Right s (pick (hasForm f s) (make (valuesAt f s 0)) other)
 held-right f s make other p g r =
     pick-right s (hasForm f s) (make (valuesAt f s 0)) other (λ h. g (valuesAt f s 0) (form-of f s p h)) r
 
@@ -104,7 +112,8 @@ header-right : (s : List ℕ) → Right s (headerHeld s)
 unfolding headerHeld bytesOf
 header-right s =
     held-right headerForm s (λ v. header (headerWith v)) NoForm proper-header
-    (λ v k. inr (made s headerForm v (headerValues (headerWith v)) k (ap (λ (i : ℕ). (v .0, (v .1 .0, (i, v .1 .1 .1)))) (scores-place (v .1 .1 .0) (k .1 .1 .1 .0)))))
+    (λ v k. inr (made s headerForm v (headerValues (headerWith v)) k
+    (ap (λ (i : ℕ). (v .0, (v .1 .0, (i, v .1 .1 .1)))) (scores-place (v .1 .1 .0) (k .1 .1 .1 .0)))))
     (inl refl)
 
 loan-right : (s : List ℕ) → Right s (loanHeld s)
@@ -131,14 +140,20 @@ unfolding assetHeld bytesOf
 asset-right s =
     held-right assetForm s (λ v. asset (assetWith v)) NoForm proper-asset (λ v k. inr (k .1, k .0)) (inl refl)
 
-plain-right : (i : Item) (t s : List ℕ) → ((n : ℕ) → (s ≡ formText (plainForm t) (n, tt)) × AllWritable (plainForm t) (n, tt) → Right s (amount (record { item = i; amount = unsigned n }))) → Right s (plainHeld i t s)
+plain-right :
+    (i : Item) (t s : List ℕ) →
+    ((n : ℕ) → (s ≡ formText (plainForm t) (n, tt)) × AllWritable (plainForm t) (n, tt) → Right s (amount (record { item = i; amount = unsigned n }))) →
+    Right s (plainHeld i t s)
 unfolding plainHeld
 plain-right i t s f =
     held-right (plainForm t) s (λ v. amount (record { item = i; amount = unsigned (v .0) })) NoForm (proper-plain t)
     (λ v k. f (v .0) k)
     (inl refl)
 
-signed-right : (i : Item) (t s : List ℕ) → ((n : Signed) → (s ≡ formText (signedForm t) (n, tt)) × AllWritable (signedForm t) (n, tt) → Right s (amount (record { item = i; amount = n }))) → Right s (signedHeld i t s)
+signed-right :
+    (i : Item) (t s : List ℕ) →
+    ((n : Signed) → (s ≡ formText (signedForm t) (n, tt)) × AllWritable (signedForm t) (n, tt) → Right s (amount (record { item = i; amount = n }))) →
+    Right s (signedHeld i t s)
 unfolding signedHeld
 signed-right i t s f =
     held-right (signedForm t) s (λ v. amount (record { item = i; amount = v .0 })) NoForm (proper-signed t)
@@ -176,7 +191,9 @@ content-right s = held-as-right (placeOf (lettersAt s 1) names) s
 -- From what is written to what the line holds.
 
 -- a name stands after the opening bracket and before a space, and its place decides the reader
-named : (s w y : List ℕ) (place : ℕ) (c : Content) → allWithin 97 122 w ≡ true → placeOf w names ≡ place → s ≡ 40 ∷ (w ++ (32 ∷ y)) → heldAs place s ≡ c → contentOf s ≡ c
+named :
+    (s w y : List ℕ) (place : ℕ) (c : Content) → allWithin 97 122 w ≡ true → placeOf w names ≡ place →
+    s ≡ 40 ∷ (w ++ (32 ∷ y)) → heldAs place s ≡ c → contentOf s ≡ c
 unfolding contentOf runOf
 named s w y place c l p e h =
     let d : lettersAt s 1 ≡ w = rw e (run-exact 97 122 w (32 ∷ y) l refl) in
@@ -195,7 +212,9 @@ loan-begins s h =
         absurd (omega (arith, after-true s 0 (text "(loan (bal ") h, stands-fits s 0 (text "(loan (bal ") h))
 
 -- nor is one whose text after n fields does not stand
-pub loan-stops : (n : ℕ) (s : List ℕ) (at : ℕ) → standsAt s at (firstText (later n loanForm)) ≡ false → eqb (afterForm (later n loanForm) s at) (length s) ≡ false
+pub loan-stops :
+    (n : ℕ) (s : List ℕ) (at : ℕ) → standsAt s at (firstText (later n loanForm)) ≡ false →
+    eqb (afterForm (later n loanForm) s at) (length s) ≡ false
 loan-stops n s at h = form-stops (later n loanForm) s at (proper-later n loanForm proper-loan) h
 
 pub no-loan : (s : List ℕ) → standsAt s 0 (text "(loan (bal ") ≡ false → NoForm ≡ loanHeld s
@@ -203,10 +222,14 @@ unfolding loanHeld
 no-loan s h = rw (form-stops loanForm s 0 proper-loan h)
 
 -- what is read of a form's bytes
-held : (f : Form) (s : List ℕ) (make : Values f → Content) (other : Content) (v : Values f) → proper f ≡ true → s ≡ formText f v → AllWritable f v → pick (hasForm f s) (make (valuesAt f s 0)) other ≡ make v
+held :
+    (f : Form) (s : List ℕ) (make : Values f → Content) (other : Content) (v : Values f) → proper f ≡ true →
+    s ≡ formText f v → AllWritable f v → pick (hasForm f s) (make (valuesAt f s 0)) other ≡ make v
 held f s make other v p e w = let k = form-has f s v p e w in rw (k .0) (ap make (k .1))
 
-aged-back : (h : Header) (b : Bool) → b ≡ h .aged → header (record { loans = h .loans; unscored = h .unscored; aged = eqb (pick b 1 0) 1; held = h .held }) ≡ header h
+aged-back :
+    (h : Header) (b : Bool) → b ≡ h .aged →
+    header (record { loans = h .loans; unscored = h .unscored; aged = eqb (pick b 1 0) 1; held = h .held }) ≡ header h
 aged-back h true e = ap (λ (b : Bool). header (record { loans = h .loans; unscored = h .unscored; aged = b; held = h .held })) e
 aged-back h false e = ap (λ (b : Bool). header (record { loans = h .loans; unscored = h .unscored; aged = b; held = h .held })) e
 
@@ -222,7 +245,9 @@ loan-written s l w e =
     named s (text "loan") _ 0 (loan l) refl refl e
     (held loanForm s (λ v. loan (loanWith v)) NoForm (loanValues l) proper-loan e w)
 
-class-back : (p : Policy) (q : Class) → q ≡ p .class → policy (record { class = classAt (classPlace q); premium = p .premium; term = p .term; completed = p .completed }) ≡ policy p
+class-back :
+    (p : Policy) (q : Class) → q ≡ p .class →
+    policy (record { class = classAt (classPlace q); premium = p .premium; term = p .term; completed = p .completed }) ≡ policy p
 class-back p Home e = ap (λ (q : Class). policy (record { class = q; premium = p .premium; term = p .term; completed = p .completed })) e
 class-back p Multi e = ap (λ (q : Class). policy (record { class = q; premium = p .premium; term = p .term; completed = p .completed })) e
 
@@ -253,12 +278,16 @@ asset-written s a w e =
     named s (text "asset") _ 3 (asset a) refl refl e
     (held assetForm s (λ v. asset (assetWith v)) NoForm (assetValues a) proper-asset e w)
 
-plain-written : (i : Item) (t s : List ℕ) (n : ℕ) → n < limit → s ≡ formText (plainForm t) (n, tt) → plainHeld i t s ≡ amount (record { item = i; amount = unsigned n })
+plain-written :
+    (i : Item) (t s : List ℕ) (n : ℕ) → n < limit → s ≡ formText (plainForm t) (n, tt) →
+    plainHeld i t s ≡ amount (record { item = i; amount = unsigned n })
 unfolding plainHeld
 plain-written i t s n w e =
     held (plainForm t) s (λ v. amount (record { item = i; amount = unsigned (v .0) })) NoForm (n, tt) (proper-plain t) e (w, tt)
 
-signed-written : (i : Item) (t s : List ℕ) (n : Signed) → AllWritable (signedForm t) (n, tt) → s ≡ formText (signedForm t) (n, tt) → signedHeld i t s ≡ amount (record { item = i; amount = n })
+signed-written :
+    (i : Item) (t s : List ℕ) (n : Signed) → AllWritable (signedForm t) (n, tt) → s ≡ formText (signedForm t) (n, tt) →
+    signedHeld i t s ≡ amount (record { item = i; amount = n })
 unfolding signedHeld
 signed-written i t s n w e =
     held (signedForm t) s (λ v. amount (record { item = i; amount = v .0 })) NoForm (n, tt) (proper-signed t) e w
@@ -267,7 +296,9 @@ signed-written i t s n w e =
 unsigned-back : (i : Item) (n : Signed) → n .minus ≡ 0 → amount (record { item = i; amount = unsigned (n .plus) }) ≡ amount (record { item = i; amount = n })
 unsigned-back i n e = ap (λ (m : ℕ). amount (record { item = i; amount = record { plus = n .plus; minus = m } })) (sym e)
 
-amount-written : (s : List ℕ) (i : Item) (n : Signed) → AllWritable (amountForm i) (amountValues i n) → SignFits i n → s ≡ formText (amountForm i) (amountValues i n) → contentOf s ≡ amount (record { item = i; amount = n })
+amount-written :
+    (s : List ℕ) (i : Item) (n : Signed) → AllWritable (amountForm i) (amountValues i n) → SignFits i n →
+    s ≡ formText (amountForm i) (amountValues i n) → contentOf s ≡ amount (record { item = i; amount = n })
 unfolding amountHeld placeOf same allWithin
 amount-written s Claims n w z e =
     named s (text "claims") _ 5 _ refl refl e (plain-written Claims (text "(claims ") s (n .plus) (w .0) e ∙ unsigned-back Claims n z)

@@ -47,7 +47,9 @@ spells w choices h =
       others = e .1;
     }
 
-word-letters : (choices : List (List ℕ)) (i : ℕ) → spelled choices ≡ true → i < length choices → (0 < length (getD choices i [])) × (allWithin 97 122 (getD choices i []) ≡ true)
+word-letters :
+    (choices : List (List ℕ)) (i : ℕ) → spelled choices ≡ true → i < length choices →
+    (0 < length (getD choices i [])) × (allWithin 97 122 (getD choices i []) ≡ true)
 word-letters [] i h l = absurd (omega arith)
 word-letters (w ∷ choices) zero h l = let k = spells w choices h in (k .some, k .letters)
 word-letters (w ∷ choices) (suc i) h l = word-letters choices i (spells w choices h .others) (omega arith)
@@ -73,13 +75,18 @@ unfolding placeOf
 word-at w [] l = absurd (omega arith)
 word-at w (x ∷ choices) l = go (same w x) refl (word-at w choices)
   where
-    go : (b : Bool) → same w x ≡ b → (placeOf w choices < length choices → getD choices (placeOf w choices) [] ≡ w) → getD (x ∷ choices) (pick b 0 (suc (placeOf w choices))) [] ≡ w
+    go :
+        (b : Bool) → same w x ≡ b → (placeOf w choices < length choices → getD choices (placeOf w choices) [] ≡ w) →
+        getD (x ∷ choices) (pick b 0 (suc (placeOf w choices))) [] ≡ w
     go true e f = sym (same-eq w x e)
     go false e f =
         let m : suc (placeOf w choices) < suc (length choices) = rw e at l in
         f (omega arith)
 
-word-written : (choices : List (List ℕ)) (s : List ℕ) (at i : ℕ) (r : List ℕ) → drop at s ≡ getD choices i [] ++ r → spelled choices ≡ true → i < length choices → Ends r → (placeOf (lettersAt s at) choices ≡ i) × (afterWord choices s at ≡ at + length (getD choices i []))
+word-written :
+    (choices : List (List ℕ)) (s : List ℕ) (at i : ℕ) (r : List ℕ) → drop at s ≡ getD choices i [] ++ r →
+    spelled choices ≡ true → i < length choices → Ends r →
+    (placeOf (lettersAt s at) choices ≡ i) × (afterWord choices s at ≡ at + length (getD choices i []))
 unfolding afterWord
 word-written choices s at i r e h l q =
     let d : lettersAt s at ≡ getD choices i [] =
@@ -129,7 +136,10 @@ properField signed = true
 properField (word choices) = spelled choices
 properField score = true
 
-pub field-written : (k : Field) (s : List ℕ) (at : ℕ) (v : Value k) (r : List ℕ) → at ≤ length s → drop at s ≡ fieldText k v ++ r → FieldWritable k v → properField k ≡ true → Ends r → (fieldAt k s at ≡ v) × (afterField k s at ≡ at + length (fieldText k v))
+pub field-written :
+    (k : Field) (s : List ℕ) (at : ℕ) (v : Value k) (r : List ℕ) → at ≤ length s → drop at s ≡ fieldText k v ++ r →
+    FieldWritable k v → properField k ≡ true → Ends r →
+    (fieldAt k s at ≡ v) × (afterField k s at ≡ at + length (fieldText k v))
 field-written number s at v r l e w p q = number-written s at v r e w q
 field-written signed s at v r l e w p q = signed-written s at v r l e w q
 field-written (word choices) s at v r l e w p q = word-written choices s at v r e p w q

@@ -57,7 +57,10 @@ form-ends (field t k f) v h = stops-ends t (fieldText k (v .0) ++ formText f (v 
 form-ends (end t) v h = rw append-nil at (stops-ends t [] h)
 
 -- the first text and field of a form's bytes, read, and the rest of the line
-pub form-step : (t : List ℕ) (k : Field) (f : Form) (s : List ℕ) (at : ℕ) (v : Values (field t k f)) → proper (field t k f) ≡ true → at ≤ length s → drop at s ≡ formText (field t k f) v → AllWritable (field t k f) v → (q : ℕ) × (afterField k s (after s at t) ≡ q) × (q ≤ length s) × (drop q s ≡ formText f (v .1)) × (fieldAt k s (after s at t) ≡ v .0)
+pub form-step :
+    (t : List ℕ) (k : Field) (f : Form) (s : List ℕ) (at : ℕ) (v : Values (field t k f)) → proper (field t k f) ≡ true →
+    at ≤ length s → drop at s ≡ formText (field t k f) v → AllWritable (field t k f) v →
+    (q : ℕ) × (afterField k s (after s at t) ≡ q) × (q ≤ length s) × (drop q s ≡ formText f (v .1)) × (fieldAt k s (after s at t) ≡ v .0)
 form-step t k f s at v p l e w =
     let q = is-proper t k f p in
     let r = rest-after s at t (fieldText k (v .0) ++ formText f (v .1)) l e in
@@ -67,7 +70,9 @@ form-step t k f s at v p l e w =
     let n = rest-after s (at + length t) (fieldText k (v .0)) (formText f (v .1)) (r .0) (r .1) in
     (at + length t + length (fieldText k (v .0)), rw a (b .1), n .0, n .1, rw a (b .0))
 
-pub form-written : (f : Form) (s : List ℕ) (at : ℕ) (v : Values f) → proper f ≡ true → at ≤ length s → drop at s ≡ formText f v → AllWritable f v → (afterForm f s at ≡ length s) × (valuesAt f s at ≡ v)
+pub form-written :
+    (f : Form) (s : List ℕ) (at : ℕ) (v : Values f) → proper f ≡ true → at ≤ length s → drop at s ≡ formText f v →
+    AllWritable f v → (afterForm f s at ≡ length s) × (valuesAt f s at ≡ v)
 form-written (field t k f) s at v p l e w =
     let a = form-step t k f s at v p l e w in
     let i = form-written f s (a .0) (v .1) (is-proper t k f p .rest) (a .2) (a .3) (w .1) in
@@ -81,7 +86,9 @@ form-past (field t k f) s at p l =
     rw (after-past s at t l, field-past k s (past s) (q .this) (omega arith)) (form-past f s (past s) (q .rest) (omega arith))
 form-past (end t) s at p l = rw (after-past s at t l) (omega arith)
 
-pub form-read : (f : Form) (s : List ℕ) (at : ℕ) → proper f ≡ true → at ≤ length s → afterForm f s at ≡ length s → (drop at s ≡ formText f (valuesAt f s at)) × AllWritable f (valuesAt f s at)
+pub form-read :
+    (f : Form) (s : List ℕ) (at : ℕ) → proper f ≡ true → at ≤ length s → afterForm f s at ≡ length s →
+    (drop at s ≡ formText f (valuesAt f s at)) × AllWritable f (valuesAt f s at)
 form-read (field t k f) s at p l e =
     start (is-proper t k f p) (λ at h x. form-read f s at (is-proper t k f p .rest) h x) (text-cases s at t)
   where
@@ -93,7 +100,10 @@ form-read (field t k f) s at p l e =
         (drop at s ≡ t ++ (fieldText k (fieldAt k s from) ++ formText f (valuesAt f s (afterField k s from)))) ×
         (FieldWritable k (fieldAt k s from) × AllWritable f (valuesAt f s (afterField k s from)))
 
-    next : Proper k f → ((at : ℕ) → at ≤ length s → afterForm f s at ≡ length s → Read at) → Stands s at t → afterForm f s (afterField k s (at + length t)) ≡ length s → FieldRead k s (at + length t) ⊎ (afterField k s (at + length t) ≡ past s) → Goal (at + length t)
+    next :
+        Proper k f → ((at : ℕ) → at ≤ length s → afterForm f s at ≡ length s → Read at) → Stands s at t →
+        afterForm f s (afterField k s (at + length t)) ≡ length s →
+        FieldRead k s (at + length t) ⊎ (afterField k s (at + length t) ≡ past s) → Goal (at + length t)
     next q ih a x (inl b) =
         let i = ih (afterField k s (at + length t)) (b .fits) x in (
           a .text ∙ ap (λ (y : List ℕ). t ++ y) (b .text ∙ ap (λ (y : List ℕ). fieldText k (fieldAt k s (at + length t)) ++ y) (i .0)),

@@ -15,7 +15,8 @@ use Rattle.line_forms.specs.Readings.{headerOf, headerFor}
 use Rattle.line_forms.specs.Claims.{AfterHeader, headerRefusal, headerContent, NoBytes, HeaderReading, BytesRead}
 use Rattle.line_forms.specs.declared.Header.{Header}
 use Rattle.line_forms.specs.declared.Content.{Content}
-use Rattle.line_forms.specs.declared.Content.the-variants.{Header as header, Loan as loan, Policy as policy, Derivative as derivative, Asset as asset, Amount as amount, NoForm}
+use Rattle.line_forms.specs.declared.Content.the-variants.{Header as header, Loan as loan, Policy as policy, Derivative as derivative}
+use Rattle.line_forms.specs.declared.Content.the-variants.{Asset as asset, Amount as amount, NoForm}
 use Rattle.line_forms.specs.declared.HeaderLine.{HeaderLine}
 use Rattle.line_forms.specs.declared.HeaderLine.the-variants.{Header as HeaderRead, Refusal as HeaderRefusal}
 use Rattle.line_forms.proofs.Bytes.{and-both, within-bounds}
@@ -32,7 +33,10 @@ data Answer (s : List ℕ) : HeaderLine → Type 0 where
   over : (h : Header) → Writable (header h) → inRange (header h) ≡ true → h .loans < h .unscored → s ≡ bytesOf (header h) → Answer s (HeaderRefusal 4)
   held : (h : Header) → Writable (header h) → inRange (header h) ≡ true → h .unscored ≤ h .loans → s ≡ bytesOf (header h) → Answer s (HeaderRead h)
 
-judged : (s : List ℕ) (h : Header) → Writable (header h) → s ≡ bytesOf (header h) → (b : Bool) → inRange (header h) ≡ b → (d : Bool) → ltb (h .loans) (h .unscored) ≡ d → Answer s (pick b (pick d (HeaderRefusal 4) (HeaderRead h)) (HeaderRefusal 3))
+judged :
+    (s : List ℕ) (h : Header) → Writable (header h) → s ≡ bytesOf (header h) → (b : Bool) → inRange (header h) ≡ b →
+    (d : Bool) → ltb (h .loans) (h .unscored) ≡ d →
+    Answer s (pick b (pick d (HeaderRefusal 4) (HeaderRead h)) (HeaderRefusal 3))
 judged s h w e true r true x = over h w r (ltb-true (h .loans) (h .unscored) x) e
 judged s h w e true r false x = held h w r (ltb-false (h .loans) (h .unscored) x) e
 judged s h w e false r true x = out h w r e
@@ -64,7 +68,9 @@ other-form (asset x) a = refl
 other-form (amount x) a = refl
 other-form NoForm a = absurd a
 
-header-range : (h : Header) → headerFor (header h) ≡ pick (inRange (header h)) (pick (ltb (h .loans) (h .unscored)) (HeaderRefusal 4) (HeaderRead h)) (HeaderRefusal 3)
+header-range :
+    (h : Header) →
+    headerFor (header h) ≡ pick (inRange (header h)) (pick (ltb (h .loans) (h .unscored)) (HeaderRefusal 4) (HeaderRead h)) (HeaderRefusal 3)
 unfolding headerFor inRange
 header-range h = refl
 
@@ -106,7 +112,9 @@ rule7 s r (out h w o e) q = absurd (omega arith)
 rule7 s r (over h w o l e) q = absurd (omega arith)
 rule7 s r (held h w o l e) q = absurd (omega arith)
 
-rule3 : (s : List ℕ) (r : HeaderLine) → Answer s r → headerRefusal r ≡ 3 → (h : Header) × Writable (header h) × (inRange (header h) ≡ false) × (s ≡ bytesOf (header h))
+rule3 :
+    (s : List ℕ) (r : HeaderLine) → Answer s r → headerRefusal r ≡ 3 →
+    (h : Header) × Writable (header h) × (inRange (header h) ≡ false) × (s ≡ bytesOf (header h))
 rule3 s r (long l) q = absurd (omega arith)
 rule3 s r (formless l n) q = absurd (omega arith)
 rule3 s r (other c a w e) q = absurd (omega arith)
@@ -114,7 +122,9 @@ rule3 s r (out h w o e) q = (h, w, o, e)
 rule3 s r (over h w o l e) q = absurd (omega arith)
 rule3 s r (held h w o l e) q = absurd (omega arith)
 
-rule4 : (s : List ℕ) (r : HeaderLine) → Answer s r → headerRefusal r ≡ 4 → (h : Header) × Writable (header h) × (inRange (header h) ≡ true) × (h .loans < h .unscored) × (s ≡ bytesOf (header h))
+rule4 :
+    (s : List ℕ) (r : HeaderLine) → Answer s r → headerRefusal r ≡ 4 →
+    (h : Header) × Writable (header h) × (inRange (header h) ≡ true) × (h .loans < h .unscored) × (s ≡ bytesOf (header h))
 rule4 s r (long l) q = absurd (omega arith)
 rule4 s r (formless l n) q = absurd (omega arith)
 rule4 s r (other c a w e) q = absurd (omega arith)
@@ -122,7 +132,10 @@ rule4 s r (out h w o e) q = absurd (omega arith)
 rule4 s r (over h w o l e) q = (h, w, o, l, e)
 rule4 s r (held h w o l e) q = absurd (omega arith)
 
-numbers : (s : List ℕ) (r : HeaderLine) → Answer s r → ((h : Header) × (headerContent r ≡ header h) × (headerRefusal r ≡ 0)) ⊎ (headerRefusal r ≡ 1) ⊎ (headerRefusal r ≡ 2) ⊎ (headerRefusal r ≡ 7) ⊎ (headerRefusal r ≡ 3) ⊎ (headerRefusal r ≡ 4)
+numbers :
+    (s : List ℕ) (r : HeaderLine) → Answer s r →
+    ((h : Header) × (headerContent r ≡ header h) × (headerRefusal r ≡ 0)) ⊎
+    (headerRefusal r ≡ 1) ⊎ (headerRefusal r ≡ 2) ⊎ (headerRefusal r ≡ 7) ⊎ (headerRefusal r ≡ 3) ⊎ (headerRefusal r ≡ 4)
 numbers s r (held h w o l e) = inl (h, refl, refl)
 numbers s r (long l) = inr (inl refl)
 numbers s r (formless l k) = inr (inr (inl refl))
@@ -140,7 +153,9 @@ headerIn g (asset x) = g
 headerIn g (amount x) = g
 headerIn g NoForm = g
 
-rule0 : (s : List ℕ) (r : HeaderLine) → Answer s r → headerRefusal r ≡ 0 → (g : Header) → headerContent r ≡ header g → Writable (header g) × (inRange (header g) ≡ true) × (g .unscored ≤ g .loans) × (s ≡ bytesOf (header g))
+rule0 :
+    (s : List ℕ) (r : HeaderLine) → Answer s r → headerRefusal r ≡ 0 → (g : Header) → headerContent r ≡ header g →
+    Writable (header g) × (inRange (header g) ≡ true) × (g .unscored ≤ g .loans) × (s ≡ bytesOf (header g))
 unfolding headerIn
 rule0 s r (long l) q g z = absurd (omega arith)
 rule0 s r (formless l n) q g z = absurd (omega arith)
@@ -179,7 +194,9 @@ header-reading s = record {
 }
 
 -- The same by the answer's case, for one that is known.
-pub header-accepted : (s : List ℕ) (h : Header) → (headerOf s ≡ HeaderRead h) ↔ (Writable (header h) × (inRange (header h) ≡ true) × (h .unscored ≤ h .loans) × (s ≡ bytesOf (header h)))
+pub header-accepted :
+    (s : List ℕ) (h : Header) →
+    (headerOf s ≡ HeaderRead h) ↔ (Writable (header h) × (inRange (header h) ≡ true) × (h .unscored ≤ h .loans) × (s ≡ bytesOf (header h)))
 header-accepted s h = (
   λ e. header-reading s .accepted h .0 (ap headerRefusal e, ap headerContent e),
   λ k. answers s (HeaderRead h) (held h (k .0) (k .1) (k .2) (k .3)),

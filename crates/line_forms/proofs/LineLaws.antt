@@ -12,7 +12,8 @@ use Rattle.line_forms.specs.Readings.{lineOf, lineFor}
 use Rattle.line_forms.specs.Claims.{AfterHeader, lineWith, lineRefusal, lineContent, NoBytes, LineReading}
 use Rattle.line_forms.specs.declared.Header.{Header}
 use Rattle.line_forms.specs.declared.Content.{Content}
-use Rattle.line_forms.specs.declared.Content.the-variants.{Header as header, Loan as loan, Policy as policy, Derivative as derivative, Asset as asset, Amount as amount, NoForm}
+use Rattle.line_forms.specs.declared.Content.the-variants.{Header as header, Loan as loan, Policy as policy, Derivative as derivative}
+use Rattle.line_forms.specs.declared.Content.the-variants.{Asset as asset, Amount as amount, NoForm}
 use Rattle.line_forms.specs.declared.Line.{Line}
 use Rattle.line_forms.specs.declared.Line.the-variants.{Loan as LoanLine, Policy as PolicyLine, Derivative as DerivativeLine, Asset as AssetLine, Amount as AmountLine, Refusal}
 use Rattle.line_forms.proofs.AnswerLaws.{answer-long, answer-none, answer-held, answer-cases}
@@ -115,7 +116,9 @@ rule3 s r (head h w e) q = absurd (omega arith)
 rule3 s r (out c a w o e) q = (c, a, w, o, e)
 rule3 s r (held c a w o e) q = absurd (omega (arith, accepted-number c a))
 
-numbers : (s : List ℕ) (r : Line) → Answer s r → (AfterHeader (lineContent r) × (lineRefusal r ≡ 0)) ⊎ (lineRefusal r ≡ 1) ⊎ (lineRefusal r ≡ 2) ⊎ (lineRefusal r ≡ 7) ⊎ (lineRefusal r ≡ 3)
+numbers :
+    (s : List ℕ) (r : Line) → Answer s r →
+    (AfterHeader (lineContent r) × (lineRefusal r ≡ 0)) ⊎ (lineRefusal r ≡ 1) ⊎ (lineRefusal r ≡ 2) ⊎ (lineRefusal r ≡ 7) ⊎ (lineRefusal r ≡ 3)
 numbers s r (held c a w o e) = inl (rw (accepted-data c a) a, accepted-number c a)
 numbers s r (long l) = inr (inl refl)
 numbers s r (formless l k) = inr (inr (inl refl))

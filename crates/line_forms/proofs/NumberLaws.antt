@@ -28,7 +28,9 @@ pub record Ends (r : List ℕ) : Type 0 where
 
 -- Numbers.
 
-pub number-written : (s : List ℕ) (at n : ℕ) (r : List ℕ) → drop at s ≡ decimal n ++ r → n < limit → Ends r → (numberAt s at ≡ n) × (afterNumber s at ≡ at + length (decimal n))
+pub number-written :
+    (s : List ℕ) (at n : ℕ) (r : List ℕ) → drop at s ≡ decimal n ++ r → n < limit → Ends r →
+    (numberAt s at ≡ n) × (afterNumber s at ≡ at + length (decimal n))
 unfolding numberAt afterNumber
 number-written s at n r e h q =
     let d : digitsAt s at ≡ decimal n = rw e (run-exact 48 57 (decimal n) r (decimal-digits n) (q .digits)) in
@@ -76,7 +78,9 @@ next-rest s at b r h e = rest-after s at (b ∷ []) r h e .1
 of : ℕ → ℕ → Signed
 of p m = record { plus = p; minus = m }
 
-pub signed-written : (s : List ℕ) (at : ℕ) (n : Signed) (r : List ℕ) → at ≤ length s → drop at s ≡ signedText n ++ r → FieldWritable signed n → Ends r → (signedAt s at ≡ n) × (afterSigned s at ≡ at + length (signedText n))
+pub signed-written :
+    (s : List ℕ) (at : ℕ) (n : Signed) (r : List ℕ) → at ≤ length s → drop at s ≡ signedText n ++ r →
+    FieldWritable signed n → Ends r → (signedAt s at ≡ n) × (afterSigned s at ≡ at + length (signedText n))
 unfolding signedAt afterSigned afterNegative signedText of
 signed-written s at n r l e w q = go (eqb (n .minus) 0) refl
   where
@@ -128,7 +132,9 @@ signed-read s at h = go (minusAt s at) refl
           small = rw d (omega arith, k .small, inl refl);
         })
 
-    minus : minusAt s at ≡ true → NumberRead s (at + 1) ⊎ ((afterNumber s (at + 1) ≡ past s) × (numberAt s (at + 1) ≡ 0)) → SignedRead s at ⊎ (afterSigned s at ≡ past s)
+    minus :
+        minusAt s at ≡ true → NumberRead s (at + 1) ⊎ ((afterNumber s (at + 1) ≡ past s) × (numberAt s (at + 1) ≡ 0)) →
+        SignedRead s at ⊎ (afterSigned s at ≡ past s)
     minus d (inl k) = nonzero d k (eqb (numberAt s (at + 1)) 0) refl
     minus d (inr k) = inr (rw (d, k .1))
 

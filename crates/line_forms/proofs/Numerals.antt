@@ -154,7 +154,9 @@ value-bound a (x ∷ t) h =
     (omega (arith, value-bound (a * 10 + (x - 48)) t (e .1), mul-le-mul-right (10 ^ length t) l))
 
 -- A D is the digits of the number that it gives, which is below the limit.
-several : (a d : ℕ) (t : List ℕ) → a + 48 ≡ d → 0 < a → a < 10 → allWithin 48 57 t ≡ true → length t ≤ 13 → (d ∷ t ≡ decimal (valueFrom a t)) × (valueFrom a t < limit)
+several :
+    (a d : ℕ) (t : List ℕ) → a + 48 ≡ d → 0 < a → a < 10 → allWithin 48 57 t ≡ true → length t ≤ 13 →
+    (d ∷ t ≡ decimal (valueFrom a t)) × (valueFrom a t < limit)
 several a d t e p l h k =
     let b : valueFrom a t < 10 ^ suc (length t) =
     rw (pow-suc 10 (length t))

@@ -12,7 +12,9 @@ use Rattle.line_forms.specs.Numerals.{isNumeral, valueFrom}
 use Rattle.line_forms.specs.Parsing.{digitsAt, numberAt, afterNumber, minusAt}
 
 -- what digits that are a D, or none, say of the field
-pub number-found : (s : List ℕ) (at : ℕ) → isNumeral (digitsAt s at) ≡ true → (valueFrom 0 (digitsAt s at) ≡ numberAt s at) × (at + length (digitsAt s at) ≡ afterNumber s at)
+pub number-found :
+    (s : List ℕ) (at : ℕ) → isNumeral (digitsAt s at) ≡ true →
+    (valueFrom 0 (digitsAt s at) ≡ numberAt s at) × (at + length (digitsAt s at) ≡ afterNumber s at)
 unfolding numberAt afterNumber
 number-found s at h = (rw h, rw h)
 

@@ -15,7 +15,8 @@ use Rattle.line_forms.specs.Bytes.{past, standsAt, after, runOf, allWith
 use Rattle.line_forms.specs.Numerals.{decimal, isNumeral}
 use Rattle.line_forms.specs.Forms.{scoreText, ScoreWritable}
 use Rattle.line_forms.specs.Parsing.{digitsAt, lettersAt, numberAt, afterNumber, noneAt, ageAfter, scoreAt, afterScore}
-use Rattle.line_forms.proofs.Bytes.{and-both, within-bounds, same-eq, run-split, run-exact, run-end, rest-after, run-within, text-stands, Stands, stands-fits, after-true, after-false, text-cases, after-past}
+use Rattle.line_forms.proofs.Bytes.{and-both, within-bounds, same-eq, run-split, run-exact, run-end, rest-after, run-within, text-stands}
+use Rattle.line_forms.proofs.Bytes.{Stands, stands-fits, after-true, after-false, text-cases, after-past}
 use Rattle.line_forms.proofs.Numerals.{decimal-digits, is-numeral}
 use Rattle.exact.proofs.Decimal.{digits-some}
 use Rattle.line_forms.proofs.Positions.{number-missing}
@@ -35,7 +36,9 @@ space-ends : (x : List ℕ) → Ends (32 ∷ x)
 unfolding runOf
 space-ends x = record { digits = refl; letters = refl }
 
-pub score-written : (s : List ℕ) (at : ℕ) (q : Score) (r : List ℕ) → at ≤ length s → drop at s ≡ scoreText q ++ r → ScoreWritable q → Ends r → (scoreAt s at ≡ q) × (afterScore s at ≡ at + length (scoreText q))
+pub score-written :
+    (s : List ℕ) (at : ℕ) (q : Score) (r : List ℕ) → at ≤ length s → drop at s ≡ scoreText q ++ r → ScoreWritable q →
+    Ends r → (scoreAt s at ≡ q) × (afterScore s at ≡ at + length (scoreText q))
 unfolding scoreAt afterScore same allWithin
 score-written s at (Scored n age) r l e w q =
     let m = length (decimal n) in
@@ -60,19 +63,25 @@ pub score-read : (s : List ℕ) (at : ℕ) → at ≤ length s → ScoreRead s a
 unfolding scoreAt afterScore
 score-read s at h = go (noneAt s at) refl
   where
-    aged : noneAt s at ≡ false → NumberRead s at → Stands s (afterNumber s at) (text " ") → NumberRead s (ageAfter s at) ⊎ ((afterNumber s (ageAfter s at) ≡ past s) × (numberAt s (ageAfter s at) ≡ 0)) → ScoreRead s at ⊎ (afterScore s at ≡ past s)
+    aged :
+        noneAt s at ≡ false → NumberRead s at → Stands s (afterNumber s at) (text " ") →
+        NumberRead s (ageAfter s at) ⊎ ((afterNumber s (ageAfter s at) ≡ past s) × (numberAt s (ageAfter s at) ≡ 0)) →
+        ScoreRead s at ⊎ (afterScore s at ≡ past s)
     aged d k a (inl m) =
-        let e : drop (afterNumber s at) s ≡ 32 ∷ drop (ageAfter s at) s = a .text ∙ rw (a .next) in
+        let g = ageAfter s at in
+        let e : drop (afterNumber s at) s ≡ 32 ∷ drop g s = a .text ∙ rw (a .next) in
         inl (record {
           fits = rw d (m .fits);
           text =
               rw d
-              (k .text ∙ rw (e, m .text) (sym (append-assoc (decimal (numberAt s at)) (32 ∷ decimal (numberAt s (ageAfter s at))) (drop (afterNumber s (ageAfter s at)) s))));
+              (k .text ∙ rw (e, m .text) (sym (append-assoc (decimal (numberAt s at)) (32 ∷ decimal (numberAt s g)) (drop (afterNumber s g) s))));
           small = rw d (k .small, m .small);
         })
     aged d k a (inr m) = inr (rw d (m .0))
 
-    spaced : noneAt s at ≡ false → NumberRead s at → Stands s (afterNumber s at) (text " ") ⊎ (ageAfter s at ≡ past s) → ScoreRead s at ⊎ (afterScore s at ≡ past s)
+    spaced :
+        noneAt s at ≡ false → NumberRead s at → Stands s (afterNumber s at) (text " ") ⊎ (ageAfter s at ≡ past s) →
+        ScoreRead s at ⊎ (afterScore s at ≡ past s)
     spaced d k (inl a) = aged d k a (number-read s (ageAfter s at) (rw (a .next) (a .fits)))
     spaced d k (inr a) = inr (rw (d, a) (number-past s (past s) (omega arith)))
 
@@ -99,7 +108,9 @@ score-past s at h =
     (number-past s (past s) (omega arith))
 
 -- What a reader finds that tries the number first: a space after it, or the word, or neither.
-pub score-scored : (s : List ℕ) (at : ℕ) → standsAt s (afterNumber s at) (text " ") ≡ true → (Scored (numberAt s at) (numberAt s (afterNumber s at + 1)) ≡ scoreAt s at) × (afterNumber s (afterNumber s at + 1) ≡ afterScore s at)
+pub score-scored :
+    (s : List ℕ) (at : ℕ) → standsAt s (afterNumber s at) (text " ") ≡ true →
+    (Scored (numberAt s at) (numberAt s (afterNumber s at + 1)) ≡ scoreAt s at) × (afterNumber s (afterNumber s at + 1) ≡ afterScore s at)
 unfolding scoreAt afterScore same
 score-scored s at e =
     let l = stands-fits s (afterNumber s at) (text " ") e in
@@ -113,11 +124,15 @@ score-scored s at e =
         (digits-first (digitsAt s at) (drop (length (digitsAt s at)) (drop at s)) (is-numeral (digitsAt s at) h .some) (run-within 48 57 (drop at s)))
     found false h k = absurd (omega (arith, number-missing s at h .1))
 
-pub score-none : (s : List ℕ) (at : ℕ) (w : List ℕ) → w ≡ lettersAt s at → same w (text "none") ≡ true → (Unscored ≡ scoreAt s at) × (at + length w ≡ afterScore s at)
+pub score-none :
+    (s : List ℕ) (at : ℕ) (w : List ℕ) → w ≡ lettersAt s at → same w (text "none") ≡ true →
+    (Unscored ≡ scoreAt s at) × (at + length w ≡ afterScore s at)
 unfolding scoreAt afterScore
 score-none s at w e h = (rw (← e, h), rw (← e, h))
 
-pub score-missing : (s : List ℕ) (at : ℕ) → standsAt s (afterNumber s at) (text " ") ≡ false → noneAt s at ≡ false → (Scored (numberAt s at) 0 ≡ scoreAt s at) × (past s ≡ afterScore s at)
+pub score-missing :
+    (s : List ℕ) (at : ℕ) → standsAt s (afterNumber s at) (text " ") ≡ false → noneAt s at ≡ false →
+    (Scored (numberAt s at) 0 ≡ scoreAt s at) × (past s ≡ afterScore s at)
 unfolding scoreAt afterScore isNumeral allWithin
 score-missing s at e d =
     let k : length s ≤ past s = omega arith in

@@ -10,13 +10,16 @@ use Rattle.loan_charge.specs.declared.Score.{Score}
 use Rattle.loan_charge.specs.declared.Score.the-variants.{Scored, Unscored}
 use Rattle.exact.specs.Choice.{pick}
 use Rattle.line_forms.specs.Numerals.{decimal, signedText}
-use Rattle.line_forms.specs.Forms.{Field, number, signed, word, score, Form, field, end, Value, Values, FieldWritable, AllWritable, fieldText, formText, scoreText, ScoreWritable}
-use Rattle.line_forms.specs.Contents.{headerForm, headerValues, loanForm, loanValues, policyForm, policyValues, derivativeForm, derivativeValues, assetForm, assetValues, amountForm, amountValues, bytesOf, Writable}
+use Rattle.line_forms.specs.Forms.{Field, number, signed, word, score, Form, field, end, Value, Values, FieldWritable, AllWritable, fieldText}
+use Rattle.line_forms.specs.Forms.{formText, scoreText, ScoreWritable}
+use Rattle.line_forms.specs.Contents.{headerForm, headerValues, loanForm, loanValues, policyForm, policyValues, derivativeForm}
+use Rattle.line_forms.specs.Contents.{derivativeValues, assetForm, assetValues, amountForm, amountValues, bytesOf, Writable}
 use Rattle.fixed_point.specs.declared.Signed.{Signed}
 use Rattle.line_forms.specs.declared.Item.{Item}
 use Rattle.line_forms.specs.declared.Item.the-variants.{Claims, Lossc, Stated, Equity, Aoci, B, C}
 use Rattle.line_forms.specs.declared.Content.{Content}
-use Rattle.line_forms.specs.declared.Content.the-variants.{Header as header, Loan as loan, Policy as policy, Derivative as derivative, Asset as asset, Amount as amount, NoForm}
+use Rattle.line_forms.specs.declared.Content.the-variants.{Header as header, Loan as loan, Policy as policy, Derivative as derivative}
+use Rattle.line_forms.specs.declared.Content.the-variants.{Asset as asset, Amount as amount, NoForm}
 use Rattle.line_forms.proofs.Numerals.{decimal-short}
 
 abbrev longest : List (List ℕ) → ℕ

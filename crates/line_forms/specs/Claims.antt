@@ -9,9 +9,11 @@ use Rattle.line_forms.specs.Contents.{bytesOf, Writable, inRange}
 use Rattle.line_forms.specs.Readings.{longestLine, headerOf, contentOf}
 use Rattle.line_forms.specs.declared.Header.{Header}
 use Rattle.line_forms.specs.declared.Content.{Content}
-use Rattle.line_forms.specs.declared.Content.the-variants.{Header as header, Loan as loan, Policy as policy, Derivative as derivative, Asset as asset, Amount as amount, NoForm}
+use Rattle.line_forms.specs.declared.Content.the-variants.{Header as header, Loan as loan, Policy as policy, Derivative as derivative}
+use Rattle.line_forms.specs.declared.Content.the-variants.{Asset as asset, Amount as amount, NoForm}
 use Rattle.line_forms.specs.declared.Line.{Line}
-use Rattle.line_forms.specs.declared.Line.the-variants.{Loan as LoanLine, Policy as PolicyLine, Derivative as DerivativeLine, Asset as AssetLine, Amount as AmountLine, Refusal}
+use Rattle.line_forms.specs.declared.Line.the-variants.{Loan as LoanLine, Policy as PolicyLine, Derivative as DerivativeLine}
+use Rattle.line_forms.specs.declared.Line.the-variants.{Asset as AssetLine, Amount as AmountLine, Refusal}
 use Rattle.line_forms.specs.declared.HeaderLine.{HeaderLine}
 use Rattle.line_forms.specs.declared.HeaderLine.the-variants.{Header as HeaderRead, Refusal as HeaderRefusal}
 
@@ -77,13 +79,20 @@ pub record LineReading (s : List ℕ) (r : Line) : Type 0 where
 
 -- what the answer r for a header line s says of it
 pub record HeaderReading (s : List ℕ) (r : HeaderLine) : Type 0 where
-  pub accepted : (h : Header) → ((headerRefusal r ≡ 0) × (headerContent r ≡ header h)) ↔ (Writable (header h) × (inRange (header h) ≡ true) × (h .unscored ≤ h .loans) × (s ≡ bytesOf (header h)))
+  pub accepted :
+      (h : Header) →
+      ((headerRefusal r ≡ 0) × (headerContent r ≡ header h)) ↔
+      (Writable (header h) × (inRange (header h) ≡ true) × (h .unscored ≤ h .loans) × (s ≡ bytesOf (header h)))
   pub refused1 : (headerRefusal r ≡ 1) ↔ (longestLine < length s)
   pub refused2 : (headerRefusal r ≡ 2) ↔ ((length s ≤ longestLine) × NoBytes s)
   pub refused7 : (headerRefusal r ≡ 7) ↔ ((c : Content) × AfterHeader c × Writable c × (s ≡ bytesOf c))
   pub refused3 : (headerRefusal r ≡ 3) ↔ ((h : Header) × Writable (header h) × (inRange (header h) ≡ false) × (s ≡ bytesOf (header h)))
-  pub refused4 : (headerRefusal r ≡ 4) ↔ ((h : Header) × Writable (header h) × (inRange (header h) ≡ true) × (h .loans < h .unscored) × (s ≡ bytesOf (header h)))
-  pub numbers : ((h : Header) × (headerContent r ≡ header h) × (headerRefusal r ≡ 0)) ⊎ (headerRefusal r ≡ 1) ⊎ (headerRefusal r ≡ 2) ⊎ (headerRefusal r ≡ 7) ⊎ (headerRefusal r ≡ 3) ⊎ (headerRefusal r ≡ 4)
+  pub refused4 :
+      (headerRefusal r ≡ 4) ↔
+      ((h : Header) × Writable (header h) × (inRange (header h) ≡ true) × (h .loans < h .unscored) × (s ≡ bytesOf (header h)))
+  pub numbers :
+      ((h : Header) × (headerContent r ≡ header h) × (headerRefusal r ≡ 0)) ⊎
+      (headerRefusal r ≡ 1) ⊎ (headerRefusal r ≡ 2) ⊎ (headerRefusal r ≡ 7) ⊎ (headerRefusal r ≡ 3) ⊎ (headerRefusal r ≡ 4)
 
 -- No form is longer than 152 bytes, so refusal 1 meets none; its bytes give the data back; and a header in its ranges can be written.
 pub record BytesRead : Type 0 where

@@ -1,4 +1,5 @@
--- One line of every form as text, as 01, "A book, line by line", shows the forms: a word that were misspelt alike in the definitions and in the code is seen here.
+-- One line of every form as text, as 01, "A book, line by line", shows the forms.
+-- A word that is misspelt alike in the definitions and in the code is seen here.
 use mathlib.Core.Bool.{true, false}
 use mathlib.Core.Path.{_≡_}
 use Rattle.exact.specs.Text.{text}
@@ -7,7 +8,8 @@ use Rattle.line_forms.specs.Contents.{bytesOf}
 use Rattle.line_forms.specs.declared.Class.the-variants.{Home, Multi}
 use Rattle.line_forms.specs.declared.Kind.the-variants.{Rate, Float, Fx, Equity as EquityKind, Metal, Other}
 use Rattle.line_forms.specs.declared.Item.the-variants.{Claims, Lossc, Stated, Equity as EquityItem, Aoci, B, C}
-use Rattle.line_forms.specs.declared.Content.the-variants.{Header as header, Loan as loan, Policy as policy, Derivative as derivative, Asset as asset, Amount as amount}
+use Rattle.line_forms.specs.declared.Content.the-variants.{Header as header, Loan as loan, Policy as policy, Derivative as derivative}
+use Rattle.line_forms.specs.declared.Content.the-variants.{Asset as asset, Amount as amount}
 
 pub record LineTexts : Type 0 where
   pub fresh :
@@ -38,11 +40,11 @@ pub record LineTexts : Type 0 where
       bytesOf (derivative (record { kind = Fx; cost = record { plus = 0; minus = 7 }; notional = 400; months = 60; payments = 2; factor = 25 })) ≡
       text "(deriv (kind fx) (cost -7) (notional 400) (months 60) (pays 2) (factor 25))"
   pub equity-kind :
-      bytesOf (derivative (record { kind = EquityKind; cost = record { plus = 100000000000; minus = 0 }; notional = 400; months = 60; payments = 2; factor = 25 })) ≡
-      text "(deriv (kind equity) (cost 100000000000) (notional 400) (months 60) (pays 2) (factor 25))"
+      bytesOf (derivative (record { kind = EquityKind; cost = record { plus = 90; minus = 0 }; notional = 400; months = 60; payments = 2; factor = 25 })) ≡
+      text "(deriv (kind equity) (cost 90) (notional 400) (months 60) (pays 2) (factor 25))"
   pub metal :
-      bytesOf (derivative (record { kind = Metal; cost = record { plus = 0; minus = 100000000000 }; notional = 400; months = 60; payments = 2; factor = 25 })) ≡
-      text "(deriv (kind metal) (cost -100000000000) (notional 400) (months 60) (pays 2) (factor 25))"
+      bytesOf (derivative (record { kind = Metal; cost = record { plus = 0; minus = 800 }; notional = 400; months = 60; payments = 2; factor = 25 })) ≡
+      text "(deriv (kind metal) (cost -800) (notional 400) (months 60) (pays 2) (factor 25))"
   pub other :
       bytesOf (derivative (record { kind = Other; cost = record { plus = 1; minus = 0 }; notional = 400; months = 60; payments = 2; factor = 25 })) ≡
       text "(deriv (kind other) (cost 1) (notional 400) (months 60) (pays 2) (factor 25))"

@@ -7,7 +7,8 @@ use Rattle.exact.specs.Text.{text}
 use Rattle.exact.specs.Choice.{pick}
 use Rattle.line_forms.specs.Forms.{Values, choicesOf}
 use Rattle.line_forms.specs.Parsing.{valuesAt, hasForm, lettersAt, placeOf}
-use Rattle.line_forms.specs.Contents.{headerForm, headerInRange, loanForm, loanInRange, policyForm, policyInRange, derivativeForm, derivativeInRange, assetForm, assetInRange, plainForm, signedForm, amountInRange}
+use Rattle.line_forms.specs.Contents.{headerForm, headerInRange, loanForm, loanInRange, policyForm, policyInRange, derivativeForm}
+use Rattle.line_forms.specs.Contents.{derivativeInRange, assetForm, assetInRange, plainForm, signedForm, amountInRange}
 use Rattle.fixed_point.specs.declared.Signed.{Signed}
 use Rattle.line_forms.specs.declared.Header.{Header}
 use Rattle.line_forms.specs.declared.Loan.{Loan}
@@ -21,9 +22,11 @@ use Rattle.line_forms.specs.declared.Asset.{Asset}
 use Rattle.line_forms.specs.declared.Item.{Item}
 use Rattle.line_forms.specs.declared.Item.the-variants.{Claims, Lossc, Stated, Equity, Aoci, B, C}
 use Rattle.line_forms.specs.declared.Content.{Content}
-use Rattle.line_forms.specs.declared.Content.the-variants.{Header as header, Loan as loan, Policy as policy, Derivative as derivative, Asset as asset, Amount as amount, NoForm}
+use Rattle.line_forms.specs.declared.Content.the-variants.{Header as header, Loan as loan, Policy as policy, Derivative as derivative}
+use Rattle.line_forms.specs.declared.Content.the-variants.{Asset as asset, Amount as amount, NoForm}
 use Rattle.line_forms.specs.declared.Line.{Line}
-use Rattle.line_forms.specs.declared.Line.the-variants.{Loan as LoanLine, Policy as PolicyLine, Derivative as DerivativeLine, Asset as AssetLine, Amount as AmountLine, Refusal}
+use Rattle.line_forms.specs.declared.Line.the-variants.{Loan as LoanLine, Policy as PolicyLine, Derivative as DerivativeLine}
+use Rattle.line_forms.specs.declared.Line.the-variants.{Asset as AssetLine, Amount as AmountLine, Refusal}
 use Rattle.line_forms.specs.declared.HeaderLine.{HeaderLine}
 use Rattle.line_forms.specs.declared.HeaderLine.the-variants.{Header as HeaderRead, Refusal as HeaderRefusal}
 

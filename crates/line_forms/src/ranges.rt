@@ -1,7 +1,8 @@
 // The range of each number, with both ends.
 ghost use mathlib.Core.Path.{_≡_};
 ghost use Rattle.line_forms.specs.Bytes.{within};
-ghost use Rattle.line_forms.specs.Contents.{scoreInRange, loanInRange, headerInRange, policyInRange, derivativeInRange, assetInRange, moneyInRange, amountInRange};
+ghost use Rattle.line_forms.specs.Contents.{scoreInRange, loanInRange, headerInRange, policyInRange, derivativeInRange, assetInRange};
+ghost use Rattle.line_forms.specs.Contents.{moneyInRange, amountInRange};
 use crate::Amount;
 use crate::Asset;
 use crate::Derivative;

@@ -10,7 +10,8 @@ loan-requires c κs = sym (c .before .stands .ensures) ∙ c .if1 .taken
 
 returns : tie.Need-returns
 returns c =
-    c .loan .ensures ∙ sym (loan-begins (c .before .before .before .before .before .args .line .now) (sym (c .before .before .stands .ensures) ∙ c .before .if1 .taken))
+    let c1 = c .before in
+    c .loan .ensures ∙ sym (loan-begins (c1 .before .before .before .before .args .line .now) (sym (c1 .before .stands .ensures) ∙ c1 .if1 .taken))
 
 other-requires : tie.Need-other-requires
 other-requires c κs = sym (c .before .stands .ensures) ∙ c .if1 .left

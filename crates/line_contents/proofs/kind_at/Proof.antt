@@ -26,7 +26,13 @@ returns-5 c =
 returns-6 : tie.Need-returns-6
 returns-6 c =
     let p = c .before .args .place in
-    rw (ne-eqb p 0 (c .match .rest .0 .0 .0 .0 .1), ne-eqb p 1 (c .match .rest .0 .0 .0 .1), ne-eqb p 2 (c .match .rest .0 .0 .1), ne-eqb p 3 (c .match .rest .0 .1), ne-eqb p 4 (c .match .rest .1))
+    rw (
+      ne-eqb p 0 (c .match .rest .0 .0 .0 .0 .1),
+      ne-eqb p 1 (c .match .rest .0 .0 .0 .1),
+      ne-eqb p 2 (c .match .rest .0 .0 .1),
+      ne-eqb p 3 (c .match .rest .0 .1),
+      ne-eqb p 4 (c .match .rest .1),
+    )
 
 pub kind-at-spec : {M : Type 1} → statement M
 kind-at-spec =

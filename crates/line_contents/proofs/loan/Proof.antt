@@ -1,10 +1,9 @@
 -- `loan` meets its contract.
-use mathlib.Core.Path.{sym, _∙_}
 use native.Mathlib.Omega.{arith}
-use borrow.Author.Tests.{eq-eqb, ne-eqb, not-true, not-false}
+use borrow.Author.Tests.{eq-eqb, ne-eqb}
 use Rattle.exact.specs.Text.{text}
 use Rattle.line_forms.specs.Readings.{loanHeld}
-use Rattle.line_forms.proofs.Bytes.{stands-fits, after-true}
+use Rattle.line_forms.proofs.Bytes.{told-true, told-false, stands-fits, after-true}
 use Rattle.line_forms.proofs.ContentLaws.{loan-stops}
 use borrow.Author.Needs.{needs}
 use Rattle.line_contents.proofs.loan.Statement.{statement}
@@ -20,7 +19,7 @@ returns c =
     rw (
       ← a0,
       ← n1 .ensures .1,
-      loan-stops 1 s (n1 .result .next) (sym (c1 .before .stands .ensures) ∙ not-true (c1 .before .stands .result) (c1 .if1 .taken)),
+      loan-stops 1 s (n1 .result .next) (told-false (c1 .before .stands .ensures) (c1 .if1 .taken)),
     )
 
 add-long-at : tie.Need-add-long-at
@@ -28,7 +27,7 @@ add-long-at c =
     let c1 = c .before in
     let start = c1 .before .before .before .before .before in
     let k = stands-fits (start .args .line .now) (c1 .before .before .before .long-at .result .next) (text ") (val ")
-    (sym (c1 .before .stands .ensures) ∙ not-false (c1 .before .stands .result) (c1 .if1 .left)) in
+    (told-true (c1 .before .stands .ensures) (c1 .if1 .left)) in
     record { fits = omega (arith, k, start .good .0) }
 
 returns-2 : tie.Need-returns-2
@@ -39,14 +38,14 @@ returns-2 c =
     let s = c1 .before .before .before .before .before .args .line .now in
     let a0 = after-true s 0 (text "(loan (bal ") (c1 .before .before .before .before .before .pre) in
     let n1 = c1 .before .before .before .long-at in
-    let a1 = after-true s (n1 .result .next) (text ") (val ") (sym (c1 .before .stands .ensures) ∙ not-false (c1 .before .stands .result) (c1 .if1 .left)) in
+    let a1 = after-true s (n1 .result .next) (text ") (val ") (told-true (c1 .before .stands .ensures) (c1 .if1 .left)) in
     let n2 = c2 .before .before .before .long-at2 in
     rw (
       ← a0,
       ← n1 .ensures .1,
       ← a1,
       ← n2 .ensures .1,
-      loan-stops 2 s (n2 .result .next) (sym (c2 .before .stands2 .ensures) ∙ not-true (c2 .before .stands2 .result) (c2 .if2 .taken)),
+      loan-stops 2 s (n2 .result .next) (told-false (c2 .before .stands2 .ensures) (c2 .if2 .taken)),
     )
 
 add-short-at : tie.Need-add-short-at
@@ -54,7 +53,7 @@ add-short-at c =
     let c2 = c .before in
     let start = c2 .before .before .before .before .before .before .before .before .before .before in
     let k = stands-fits (start .args .line .now) (c2 .before .before .before .long-at2 .result .next) (text ") (amort ")
-    (sym (c2 .before .stands2 .ensures) ∙ not-false (c2 .before .stands2 .result) (c2 .if2 .left)) in
+    (told-true (c2 .before .stands2 .ensures) (c2 .if2 .left)) in
     record { fits = omega (arith, k, start .good .0) }
 
 returns-3 : tie.Need-returns-3
@@ -66,9 +65,9 @@ returns-3 c =
     let s = c1 .before .before .before .before .before .args .line .now in
     let a0 = after-true s 0 (text "(loan (bal ") (c1 .before .before .before .before .before .pre) in
     let n1 = c1 .before .before .before .long-at in
-    let a1 = after-true s (n1 .result .next) (text ") (val ") (sym (c1 .before .stands .ensures) ∙ not-false (c1 .before .stands .result) (c1 .if1 .left)) in
+    let a1 = after-true s (n1 .result .next) (text ") (val ") (told-true (c1 .before .stands .ensures) (c1 .if1 .left)) in
     let n2 = c2 .before .before .before .long-at2 in
-    let a2 = after-true s (n2 .result .next) (text ") (amort ") (sym (c2 .before .stands2 .ensures) ∙ not-false (c2 .before .stands2 .result) (c2 .if2 .left)) in
+    let a2 = after-true s (n2 .result .next) (text ") (amort ") (told-true (c2 .before .stands2 .ensures) (c2 .if2 .left)) in
     let n3 = c3 .before .before .before .short-at in
     rw (
       ← a0,
@@ -77,7 +76,7 @@ returns-3 c =
       ← n2 .ensures .1,
       ← a2,
       ← n3 .ensures .1,
-      loan-stops 3 s (n3 .result .next) (sym (c3 .before .stands3 .ensures) ∙ not-true (c3 .before .stands3 .result) (c3 .if3 .taken)),
+      loan-stops 3 s (n3 .result .next) (told-false (c3 .before .stands3 .ensures) (c3 .if3 .taken)),
     )
 
 add-short-at-2 : tie.Need-add-short-at-2
@@ -85,7 +84,7 @@ add-short-at-2 c =
     let c3 = c .before in
     let start = c3 .before .before .before .before .before .before .before .before .before .before .before .before .before .before .before in
     let k = stands-fits (start .args .line .now) (c3 .before .before .before .short-at .result .next) (text ") (term ")
-    (sym (c3 .before .stands3 .ensures) ∙ not-false (c3 .before .stands3 .result) (c3 .if3 .left)) in
+    (told-true (c3 .before .stands3 .ensures) (c3 .if3 .left)) in
     record { fits = omega (arith, k, start .good .0) }
 
 returns-4 : tie.Need-returns-4
@@ -98,11 +97,11 @@ returns-4 c =
     let s = c1 .before .before .before .before .before .args .line .now in
     let a0 = after-true s 0 (text "(loan (bal ") (c1 .before .before .before .before .before .pre) in
     let n1 = c1 .before .before .before .long-at in
-    let a1 = after-true s (n1 .result .next) (text ") (val ") (sym (c1 .before .stands .ensures) ∙ not-false (c1 .before .stands .result) (c1 .if1 .left)) in
+    let a1 = after-true s (n1 .result .next) (text ") (val ") (told-true (c1 .before .stands .ensures) (c1 .if1 .left)) in
     let n2 = c2 .before .before .before .long-at2 in
-    let a2 = after-true s (n2 .result .next) (text ") (amort ") (sym (c2 .before .stands2 .ensures) ∙ not-false (c2 .before .stands2 .result) (c2 .if2 .left)) in
+    let a2 = after-true s (n2 .result .next) (text ") (amort ") (told-true (c2 .before .stands2 .ensures) (c2 .if2 .left)) in
     let n3 = c3 .before .before .before .short-at in
-    let a3 = after-true s (n3 .result .next) (text ") (term ") (sym (c3 .before .stands3 .ensures) ∙ not-false (c3 .before .stands3 .result) (c3 .if3 .left)) in
+    let a3 = after-true s (n3 .result .next) (text ") (term ") (told-true (c3 .before .stands3 .ensures) (c3 .if3 .left)) in
     let n4 = c4 .before .before .before .short-at2 in
     rw (
       ← a0,
@@ -113,15 +112,16 @@ returns-4 c =
       ← n3 .ensures .1,
       ← a3,
       ← n4 .ensures .1,
-      loan-stops 4 s (n4 .result .next) (sym (c4 .before .stands4 .ensures) ∙ not-true (c4 .before .stands4 .result) (c4 .if4 .taken)),
+      loan-stops 4 s (n4 .result .next) (told-false (c4 .before .stands4 .ensures) (c4 .if4 .taken)),
     )
 
 add-score-at : tie.Need-add-score-at
 add-score-at c =
     let c4 = c .before in
-    let start = c4 .before .before .before .before .before .before .before .before .before .before .before .before .before .before .before .before .before .before .before .before in
+    let early = c4 .before .before .before .before .before .before .before .before .before .before in
+    let start = early .before .before .before .before .before .before .before .before .before .before in
     let k = stands-fits (start .args .line .now) (c4 .before .before .before .short-at2 .result .next) (text ") (score ")
-    (sym (c4 .before .stands4 .ensures) ∙ not-false (c4 .before .stands4 .result) (c4 .if4 .left)) in
+    (told-true (c4 .before .stands4 .ensures) (c4 .if4 .left)) in
     record { fits = omega (arith, k, start .good .0) }
 
 returns-5 : tie.Need-returns-5
@@ -135,13 +135,13 @@ returns-5 c =
     let s = c1 .before .before .before .before .before .args .line .now in
     let a0 = after-true s 0 (text "(loan (bal ") (c1 .before .before .before .before .before .pre) in
     let n1 = c1 .before .before .before .long-at in
-    let a1 = after-true s (n1 .result .next) (text ") (val ") (sym (c1 .before .stands .ensures) ∙ not-false (c1 .before .stands .result) (c1 .if1 .left)) in
+    let a1 = after-true s (n1 .result .next) (text ") (val ") (told-true (c1 .before .stands .ensures) (c1 .if1 .left)) in
     let n2 = c2 .before .before .before .long-at2 in
-    let a2 = after-true s (n2 .result .next) (text ") (amort ") (sym (c2 .before .stands2 .ensures) ∙ not-false (c2 .before .stands2 .result) (c2 .if2 .left)) in
+    let a2 = after-true s (n2 .result .next) (text ") (amort ") (told-true (c2 .before .stands2 .ensures) (c2 .if2 .left)) in
     let n3 = c3 .before .before .before .short-at in
-    let a3 = after-true s (n3 .result .next) (text ") (term ") (sym (c3 .before .stands3 .ensures) ∙ not-false (c3 .before .stands3 .result) (c3 .if3 .left)) in
+    let a3 = after-true s (n3 .result .next) (text ") (term ") (told-true (c3 .before .stands3 .ensures) (c3 .if3 .left)) in
     let n4 = c4 .before .before .before .short-at2 in
-    let a4 = after-true s (n4 .result .next) (text ") (score ") (sym (c4 .before .stands4 .ensures) ∙ not-false (c4 .before .stands4 .result) (c4 .if4 .left)) in
+    let a4 = after-true s (n4 .result .next) (text ") (score ") (told-true (c4 .before .stands4 .ensures) (c4 .if4 .left)) in
     let n5 = c5 .before .before .before .score-at in
     rw (
       ← a0,
@@ -154,15 +154,16 @@ returns-5 c =
       ← n4 .ensures .1,
       ← a4,
       ← n5 .ensures .1,
-      loan-stops 5 s (n5 .result .next) (sym (c5 .before .stands5 .ensures) ∙ not-true (c5 .before .stands5 .result) (c5 .if5 .taken)),
+      loan-stops 5 s (n5 .result .next) (told-false (c5 .before .stands5 .ensures) (c5 .if5 .taken)),
     )
 
 add-short-at-3 : tie.Need-add-short-at-3
 add-short-at-3 c =
     let c5 = c .before in
-    let start = c5 .before .before .before .before .before .before .before .before .before .before .before .before .before .before .before .before .before .before .before .before .before .before .before .before .before in
+    let early = c5 .before .before .before .before .before .before .before .before .before .before in
+    let start = early .before .before .before .before .before .before .before .before .before .before .before .before .before .before .before in
     let k = stands-fits (start .args .line .now) (c5 .before .before .before .score-at .result .next) (text ") (sup ")
-    (sym (c5 .before .stands5 .ensures) ∙ not-false (c5 .before .stands5 .result) (c5 .if5 .left)) in
+    (told-true (c5 .before .stands5 .ensures) (c5 .if5 .left)) in
     record { fits = omega (arith, k, start .good .0) }
 
 returns-6 : tie.Need-returns-6
@@ -177,15 +178,15 @@ returns-6 c =
     let s = c1 .before .before .before .before .before .args .line .now in
     let a0 = after-true s 0 (text "(loan (bal ") (c1 .before .before .before .before .before .pre) in
     let n1 = c1 .before .before .before .long-at in
-    let a1 = after-true s (n1 .result .next) (text ") (val ") (sym (c1 .before .stands .ensures) ∙ not-false (c1 .before .stands .result) (c1 .if1 .left)) in
+    let a1 = after-true s (n1 .result .next) (text ") (val ") (told-true (c1 .before .stands .ensures) (c1 .if1 .left)) in
     let n2 = c2 .before .before .before .long-at2 in
-    let a2 = after-true s (n2 .result .next) (text ") (amort ") (sym (c2 .before .stands2 .ensures) ∙ not-false (c2 .before .stands2 .result) (c2 .if2 .left)) in
+    let a2 = after-true s (n2 .result .next) (text ") (amort ") (told-true (c2 .before .stands2 .ensures) (c2 .if2 .left)) in
     let n3 = c3 .before .before .before .short-at in
-    let a3 = after-true s (n3 .result .next) (text ") (term ") (sym (c3 .before .stands3 .ensures) ∙ not-false (c3 .before .stands3 .result) (c3 .if3 .left)) in
+    let a3 = after-true s (n3 .result .next) (text ") (term ") (told-true (c3 .before .stands3 .ensures) (c3 .if3 .left)) in
     let n4 = c4 .before .before .before .short-at2 in
-    let a4 = after-true s (n4 .result .next) (text ") (score ") (sym (c4 .before .stands4 .ensures) ∙ not-false (c4 .before .stands4 .result) (c4 .if4 .left)) in
+    let a4 = after-true s (n4 .result .next) (text ") (score ") (told-true (c4 .before .stands4 .ensures) (c4 .if4 .left)) in
     let n5 = c5 .before .before .before .score-at in
-    let a5 = after-true s (n5 .result .next) (text ") (sup ") (sym (c5 .before .stands5 .ensures) ∙ not-false (c5 .before .stands5 .result) (c5 .if5 .left)) in
+    let a5 = after-true s (n5 .result .next) (text ") (sup ") (told-true (c5 .before .stands5 .ensures) (c5 .if5 .left)) in
     let n6 = c6 .before .before .before .short-at3 in
     rw (
       ← a0,
@@ -222,15 +223,15 @@ returns-7 c =
     let s = c1 .before .before .before .before .before .args .line .now in
     let a0 = after-true s 0 (text "(loan (bal ") (c1 .before .before .before .before .before .pre) in
     let n1 = c1 .before .before .before .long-at in
-    let a1 = after-true s (n1 .result .next) (text ") (val ") (sym (c1 .before .stands .ensures) ∙ not-false (c1 .before .stands .result) (c1 .if1 .left)) in
+    let a1 = after-true s (n1 .result .next) (text ") (val ") (told-true (c1 .before .stands .ensures) (c1 .if1 .left)) in
     let n2 = c2 .before .before .before .long-at2 in
-    let a2 = after-true s (n2 .result .next) (text ") (amort ") (sym (c2 .before .stands2 .ensures) ∙ not-false (c2 .before .stands2 .result) (c2 .if2 .left)) in
+    let a2 = after-true s (n2 .result .next) (text ") (amort ") (told-true (c2 .before .stands2 .ensures) (c2 .if2 .left)) in
     let n3 = c3 .before .before .before .short-at in
-    let a3 = after-true s (n3 .result .next) (text ") (term ") (sym (c3 .before .stands3 .ensures) ∙ not-false (c3 .before .stands3 .result) (c3 .if3 .left)) in
+    let a3 = after-true s (n3 .result .next) (text ") (term ") (told-true (c3 .before .stands3 .ensures) (c3 .if3 .left)) in
     let n4 = c4 .before .before .before .short-at2 in
-    let a4 = after-true s (n4 .result .next) (text ") (score ") (sym (c4 .before .stands4 .ensures) ∙ not-false (c4 .before .stands4 .result) (c4 .if4 .left)) in
+    let a4 = after-true s (n4 .result .next) (text ") (score ") (told-true (c4 .before .stands4 .ensures) (c4 .if4 .left)) in
     let n5 = c5 .before .before .before .score-at in
-    let a5 = after-true s (n5 .result .next) (text ") (sup ") (sym (c5 .before .stands5 .ensures) ∙ not-false (c5 .before .stands5 .result) (c5 .if5 .left)) in
+    let a5 = after-true s (n5 .result .next) (text ") (sup ") (told-true (c5 .before .stands5 .ensures) (c5 .if5 .left)) in
     let n6 = c6 .before .before .before .short-at3 in
     rw (
       ← a0,

@@ -11,7 +11,9 @@ returns c = c .before .digit-at .ensures .0 ∙ value-one (c .before .before .be
 
 returns-2 : tie.Need-returns-2
 returns-2 c =
-    rw (c .before .before .before .digit-at .ensures .0, c .before .digit-at2 .ensures .0) (value-two (c .before .before .before .before .before .args .digits .now) (c .if2 .taken))
+    let c2 = c .before in
+    let c1 = c2 .before .before in
+    rw (c1 .digit-at .ensures .0, c2 .digit-at2 .ensures .0) (value-two (c1 .before .before .args .digits .now) (c .if2 .taken))
 
 returns-3 : tie.Need-returns-3
 returns-3 c =

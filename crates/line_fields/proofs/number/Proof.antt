@@ -24,7 +24,8 @@ shared-slice-read-if2 c =
 returns-2 : tie.Need-returns-2
 returns-2 c =
     let a = c .before .before .before .before .before .before .args in
-    let m = number-missing (a .line .now) (a .at) (rw (← c .before .before .before .before .before .before .pre) (none-zero (a .digits .now) (c .before .if2 .taken))) in
+    let m = number-missing (a .line .now) (a .at)
+    (rw (← c .before .before .before .before .before .before .pre) (none-zero (a .digits .now) (c .before .if2 .taken))) in
     (c .missing2 .ensures .0 ∙ m .0, c .missing2 .ensures .1 ∙ m .1)
 
 few-value-requires : tie.Need-few-value-requires

@@ -34,7 +34,8 @@ returns-2 : tie.Need-returns-2 Inv-loop μ-loop
 returns-2 c =
     let a = c .before .before .before .before .before .before .before .before .args in
     let l = c .before .before .before .before .before .loop in
-    sym (l .inv .2 ∙ rw (run-stops (a .low) (a .high) (a .line .now) (l .end) (omega arith) (sym (c .before .before .inside .ensures) ∙ not-true (c .before .before .inside .result) (c .before .if2 .taken)), append-nil))
+    let e = sym (c .before .before .inside .ensures) ∙ not-true (c .before .before .inside .result) (c .before .if2 .taken) in
+    sym (l .inv .2 ∙ rw (run-stops (a .low) (a .high) (a .line .now) (l .end) (omega arith) e, append-nil))
 
 loop-again : tie.Need-loop-again Inv-loop μ-loop
 loop-again c =
@@ -46,7 +47,8 @@ loop-again c =
           rw (
             part-more (a .line .now) (a .at) (l .end) (l .inv .0) (omega arith),
             append-assoc,
-            run-step (a .low) (a .high) (a .line .now) (l .end) (omega arith) (sym (c .before .inside .ensures) ∙ not-false (c .before .inside .result) (c .if2 .left)),
+            run-step (a .low) (a .high) (a .line .now) (l .end) (omega arith)
+                (sym (c .before .inside .ensures) ∙ not-false (c .before .inside .result) (c .if2 .left)),
           ),
     )
 

@@ -12,7 +12,9 @@ use Rattle.line_fields.proofs.score_at.Tie as tie
 add-short-at : tie.Need-add-short-at
 add-short-at c =
     let a = c .before .before .before .before .before .before .args in
-    record { fits = omega (arith, stands-fits (a .line .now) (c .before .before .before .before .short-at .result .next) (text " ") (sym (c .before .before .stands .ensures) ∙ c .before .if1 .taken)) }
+    let n = c .before .before .before .before .short-at .result .next in
+    let k = stands-fits (a .line .now) n (text " ") (sym (c .before .before .stands .ensures) ∙ c .before .if1 .taken) in
+    record { fits = omega (arith, k) }
 
 returns : tie.Need-returns
 returns c =
@@ -30,13 +32,15 @@ add-t18 c =
 returns-2 : tie.Need-returns-2
 returns-2 c =
     let a = c .before .before .before .before .before .before .before .before .before .args in
-    score-none (a .line .now) (a .at) (c .before .before .before .run .result .now) (c .before .before .before .run .ensures) (sym (c .before .same .ensures) ∙ c .if2 .taken)
+    score-none (a .line .now) (a .at) (c .before .before .before .run .result .now) (c .before .before .before .run .ensures)
+    (sym (c .before .same .ensures) ∙ c .if2 .taken)
 
 returns-3 : tie.Need-returns-3
 returns-3 c =
     let a = c .before .before .before .before .before .before .before .before .before .args in
     let n = c .before .before .before .before .before .before .before .short-at .ensures in
-    let f = score-missing (a .line .now) (a .at) (rw (← n .1) (sym (c .before .before .before .before .before .stands .ensures) ∙ c .before .before .before .before .if1 .left))
+    let f = score-missing (a .line .now) (a .at)
+    (rw (← n .1) (sym (c .before .before .before .before .before .stands .ensures) ∙ c .before .before .before .before .if1 .left))
     (rw (← c .before .before .before .run .ensures) (sym (c .before .same .ensures) ∙ c .if2 .left)) in
     (rw (n .0) (f .0), f .1)
 

@@ -14,8 +14,11 @@ returns c =
 returns-2 : tie.Need-returns-2
 unfolding headerFor
 returns-2 c =
-    rw
-    (c .before .before .before .before .before .c .given .1, sym (c .before .before .before .header .ensures) ∙ not-false _ (c .before .before .if1 .left), lt-ltb _ _ (c .if2 .taken))
+    rw (
+      c .before .before .before .before .before .c .given .1,
+      sym (c .before .before .before .header .ensures) ∙ not-false _ (c .before .before .if1 .left),
+      lt-ltb _ _ (c .if2 .taken),
+    )
 
 returns-3 : tie.Need-returns-3
 unfolding headerFor
@@ -25,8 +28,11 @@ returns-3 c =
 returns-4 : tie.Need-returns-4
 unfolding headerFor
 returns-4 c =
-    rw
-    (c .before .before .before .before .before .c .given .1, sym (c .before .before .before .header .ensures) ∙ not-false _ (c .before .before .if1 .left), le-ltb _ _ (c .if2 .left))
+    rw (
+      c .before .before .before .before .before .c .given .1,
+      sym (c .before .before .before .header .ensures) ∙ not-false _ (c .before .before .if1 .left),
+      le-ltb _ _ (c .if2 .left),
+    )
 
 returns-5 : tie.Need-returns-5
 unfolding headerFor
