@@ -213,9 +213,10 @@ loan-begins s h =
 
 -- nor is one whose text after n fields does not stand
 pub loan-stops :
-    (n : ℕ) (s : List ℕ) (at : ℕ) → standsAt s at (firstText (later n loanForm)) ≡ false →
-    eqb (afterForm (later n loanForm) s at) (length s) ≡ false
-loan-stops n s at h = form-stops (later n loanForm) s at (proper-later n loanForm proper-loan) h
+    (n : ℕ) (s : List ℕ) (at : ℕ) → afterForm loanForm s 0 ≡ afterForm (later n loanForm) s at →
+    standsAt s at (firstText (later n loanForm)) ≡ false → NoForm ≡ loanHeld s
+unfolding loanHeld
+loan-stops n s at e h = rw (e, form-stops (later n loanForm) s at (proper-later n loanForm proper-loan) h)
 
 pub no-loan : (s : List ℕ) → standsAt s 0 (text "(loan (bal ") ≡ false → NoForm ≡ loanHeld s
 unfolding loanHeld
