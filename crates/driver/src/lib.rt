@@ -78,16 +78,10 @@ fn answered(refusal: u64, number: u64, book: Book) -> Progress
     requires { ⌜ number < 2 ^ 63 ⌝ }
     ensures { λ r. ⌜ r ≡ progressAfter refusal number book ⌝ }
 {
-    if refusal == 0 {
-        return Progress {
-            refusal: 0,
-            number: number + 1,
-            book,
-        };
-    }
+    let next = if refusal == 0 { number + 1 } else { number };
     Progress {
         refusal,
-        number,
+        number: next,
         book,
     }
 }

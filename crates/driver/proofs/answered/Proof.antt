@@ -1,12 +1,12 @@
 -- `answered` meets its contract.
-use borrow.Author.Tests.{ne-eqb}
+use borrow.Author.Tests.{eq-eqb, ne-eqb}
 use mathlib.Core.Path.{_≡_, refl}
 use borrow.Author.Needs.{needs}
 use Rattle.driver.proofs.answered.Statement.{statement}
 use Rattle.driver.proofs.answered.Tie as tie
 
 returns : tie.Need-returns
-returns c = let e : c .before .args .refusal ≡ 0 = c .if1 .taken in rw (e) refl
+returns c = rw (eq-eqb (c .before .args .refusal) 0 (c .if1 .taken)) refl
 
 returns-2 : tie.Need-returns-2
 returns-2 c = rw (ne-eqb (c .before .args .refusal) 0 (c .if1 .left)) refl
