@@ -23,7 +23,8 @@ use Rattle.book_model.specs.declared.Book.{Book}
 use Rattle.book_model.specs.declared.Opened.{Opened}
 use Rattle.book_model.specs.declared.Fed.{Fed}
 use Rattle.book_model.specs.Accepted.{loanBeyond, loanRefusal, otherRefusal, refusalFor}
-use Rattle.book_model.specs.Calls.{State, Answer, stateAt, termsIn, openedOf, fedOf, zeroHeader, emptyBook, openingFor, opening, bookAfter, feedingLine, feeding, SoundBook, Sound}
+use Rattle.book_model.specs.Calls.{State, Answer, stateAt, termsIn, openedOf, fedOf, zeroHeader, emptyBook, openingFor, opening, bookAfter, feedingLine}
+use Rattle.book_model.specs.Calls.{feeding, SoundBook, Sound}
 use Rattle.book_model.specs.LineKinds.{a-loan, another, contentKind, kindOf, kindCounts}
 use Rattle.book_model.specs.Ranges.{LoanRanges, Ranged}
 use Rattle.book_model.specs.Share.{share, loanShare}
@@ -38,14 +39,18 @@ module _ (line : List ℕ) {l : HeaderLine} (read : l ≡ headerOf line) where
   opened-as : {r : Opened} → r ≡ openedOf (openingFor l) → (r ≡ openedOf (opening line)) × Sound (stateAt (r .book) builtInRates)
   unfolding openingFor
   opened-as {r} e =
-      let answer : r ≡ openedOf (opening line) = e ∙ ap (λ (h : HeaderLine). openedOf (openingFor h)) read in
-      (answer, subst (λ (o : Opened). Sound (stateAt (o .book) builtInRates)) (sym answer) (sound (headerOf line) (opening-sound (headerOf line) (ranged-header line))))
+      let answer : r ≡ openedOf (opening line) = e ∙ ap (λ (h : HeaderLine). openedOf (openingFor h)) read in (
+        answer,
+        subst (λ (o : Opened). Sound (stateAt (o .book) builtInRates)) (sym answer)
+            (sound (headerOf line) (opening-sound (headerOf line) (ranged-header line))),
+      )
     where
       sound : (h : HeaderLine) → Sound (openingFor h .state) → Sound (stateAt (openingFor h .state .book) builtInRates)
       sound (HeaderRead h) s = s
       sound (HeaderRefusal n) s = s
 
-  pub opened : (h : Header) → l ≡ HeaderRead h → {b : Book} → b ≡ emptyBook h → (record { refusal = 0; book = b } ≡ openedOf (opening line)) × Sound (stateAt b builtInRates)
+  pub opened : (h : Header) → l ≡ HeaderRead h → {b : Book} → b ≡ emptyBook h → (record { refusal = 0; book = b } ≡ openedOf (opening line))
+      × Sound (stateAt b builtInRates)
   unfolding openingFor
   opened h e f = opened-as ((λ i. record { refusal = 0; book = f i }) ∙ ap (λ (x : HeaderLine). openedOf (openingFor x)) (sym e))
 
@@ -67,7 +72,8 @@ module _ (s : State) (line : List ℕ) {l : Line} (read : l ≡ lineOf line) (so
 
 -- Feeding what was read: a line l of the kind k, with its share.
 module _ (s : State) {read : Line} where
-  pub loan-fed : (l : Loan) → read ≡ LoanLine l → {r : Fed} → r ≡ answerWith (loanRefusal (s .book .header) (s .book .sums .counts) (l .score)) (s .book) (loanShare (termsIn s) l) →
+  pub loan-fed : (l : Loan) → read ≡ LoanLine l → {r : Fed} →
+      r ≡ answerWith (loanRefusal (s .book .header) (s .book .sums .counts) (l .score)) (s .book) (loanShare (termsIn s) l) →
       r ≡ fedOf (feedingLine s read)
   unfolding feedingLine bookAfter refusalFor contentKind share
   loan-fed l e k = k ∙ ap (λ (x : Line). fedOf (feedingLine s x)) (sym e)
@@ -75,7 +81,8 @@ module _ (s : State) {read : Line} where
   module _ (l : Line) (other : kindOf l ≡ another) (e : read ≡ l) {x : Sums} (k : x ≡ share (termsIn s) (lineContent l)) where
     pub other-asked : Sound s → Ranged (lineContent read) → SoundBook (s .book) × Bounded x × (x .counts ≡ kindCounts another)
     other-asked h r =
-        let b : Bounded (share (termsIn s) (lineContent l)) = line-bounded (s .book .header) (h .rates) (lineContent l) (subst (λ (y : Line). Ranged (lineContent y)) e r) in
+        let b : Bounded (share (termsIn s) (lineContent l)) =
+        line-bounded (s .book .header) (h .rates) (lineContent l) (subst (λ (y : Line). Ranged (lineContent y)) e r) in
         (h .book, rw k b, ap (λ (y : Sums). y .counts) k ∙ counted (termsIn s) (lineRefusal l) (lineContent l) ∙ ap kindCounts other)
 
     pub other-fed : {r : Fed} → r ≡ answerWith (otherRefusal (s .book .sums .counts)) (s .book) x → r ≡ fedOf (feedingLine s read)
@@ -95,7 +102,11 @@ module _ (test : Bool) (n : ℕ) (b : Book) (x : Sums) where
 
 -- Adding a loan, whether or not it is beyond the header's counts.
 module _ (s : State) (l : Loan) {beyond : Bool} (test : beyond ≡ loanBeyond (s .book .header) (s .book .sums .counts) (l .score)) where
-  pub loan-refused : beyond ≡ true → record { refusal = 5; book = s .book } ≡ answerWith (loanRefusal (s .book .header) (s .book .sums .counts) (l .score)) (s .book) (loanShare (termsIn s) l)
+  pub loan-refused : beyond ≡ true → record {
+    refusal = 5;
+    book =
+        s .book;
+  } ≡ answerWith (loanRefusal (s .book .header) (s .book .sums .counts) (l .score)) (s .book) (loanShare (termsIn s) l)
   loan-refused e = refused-with (loanBeyond (s .book .header) (s .book .sums .counts) (l .score)) 5 (s .book) (loanShare (termsIn s) l) refl (sym test ∙ e)
 
   module _ (e : beyond ≡ false) {x : Sums} (k : x ≡ loanShare (termsIn s) l) where
@@ -107,11 +118,14 @@ module _ (s : State) (l : Loan) {beyond : Bool} (test : beyond ≡ loanBeyond (s
         (asks (h .book) (line-bounded (s .book .header) (h .rates) (loan l) r)
         (room (termsIn s) (s .book .sums .counts) (a-loan (l .score)) (book-room (h .book)) (rw f refl)))
 
-    pub loan-taken : {r : Fed} → r ≡ answerWith 0 (s .book) x → r ≡ answerWith (loanRefusal (s .book .header) (s .book .sums .counts) (l .score)) (s .book) (loanShare (termsIn s) l)
+    pub loan-taken : {r : Fed} → r ≡ answerWith 0 (s .book) x →
+        r ≡ answerWith (loanRefusal (s .book .header) (s .book .sums .counts) (l .score)) (s .book) (loanShare (termsIn s) l)
     loan-taken m =
-        taken-with (loanBeyond (s .book .header) (s .book .sums .counts) (l .score)) 5 (s .book) (loanShare (termsIn s) l) (sym test ∙ e) (m ∙ ap (answerWith 0 (s .book)) k)
+        taken-with (loanBeyond (s .book .header) (s .book .sums .counts) (l .score)) 5 (s .book) (loanShare (termsIn s) l) (sym test ∙ e) (m
+        ∙ ap (answerWith 0 (s .book)) k)
 
 -- what adding another line within the limit asks
-pub other-asks : (b : Book) (x : Sums) → SoundBook b → Bounded x → x .counts ≡ kindCounts another → otherRefusal (b .sums .counts) ≡ 0 → Bounded (b .sums) × Bounded x × InLimits (plus (b .sums) x)
+pub other-asks : (b : Book) (x : Sums) → SoundBook b → Bounded x → x .counts ≡ kindCounts another → otherRefusal (b .sums .counts) ≡ 0 → Bounded (b .sums)
+    × Bounded x × InLimits (plus (b .sums) x)
 unfolding refusalFor
 other-asks b x h k c e = asks h k (rw c (room (under (b .header) builtInRates) (b .sums .counts) another (book-room h) e))

@@ -23,7 +23,8 @@ wholeOper home rest p m = (home + rest + m - p + 4) / 5
 home-is : (p m held : ℕ) → larger (signedWhole p m ⊖ whole held) (whole 0) ≈ whole (wholeHome p m held)
 home-is p m held = record { crossed = omega arith }
 
-oper-within : (home rest p m : ℕ) → Within (larger (whole home ⊕ whole rest ⊖ signedWhole p m) (whole 0) ⊗ quotient 1 5) (whole (wholeOper home rest p m)) (quotient 4 5)
+oper-within : (home rest p m : ℕ) → Within (larger (whole home ⊕ whole rest ⊖ signedWhole p m) (whole 0) ⊗ quotient 1 5) (whole (wholeOper home rest p m))
+    (quotient 4 5)
 oper-within home rest p m =
     record {
       lower = record { positive = omega arith };
@@ -60,7 +61,8 @@ module _ (total supplement rest a : Fraction) (held tp tm sp sm : ℕ)
       (Fractions.proper-larger (Fractions.proper-sum (near-total .lower) (record { positive = omega arith })) (record { positive = omega arith }))
       (record { positive = omega arith }) (Fractions.same-refl (exactHome total held)) (home-is tp tm held)
       (within-larger (record { positive = omega arith }) (record { above = omega (arith, wide .above) })
-      (within-sum near-total (within-same (record { positive = omega arith }) (record { positive = omega arith }) (Fractions.same-refl (negated (whole held))))))
+      (within-sum near-total (within-same (record { positive = omega arith }) (record { positive = omega arith })
+      (Fractions.same-refl (negated (whole held))))))
 
   sum-within : Within (exactHome total held ⊕ rest) (whole (wholeHome tp tm held) ⊕ whole (ceiling rest)) (widthOfSum a)
   sum-within = within-sum home-within (within-ceiling proper-rest nonnegative-rest)
@@ -70,7 +72,8 @@ module _ (total supplement rest a : Fraction) (held tp tm sp sm : ℕ)
   oper-near =
       within-trans
       (within-product (quotient 1 5) (record { positive = omega arith }) (record { above = omega arith })
-      (within-larger (record { positive = omega arith }) (Fractions.nonnegative-sum (Fractions.nonnegative-sum (Fractions.nonnegative-sum wide (record { above = omega arith })) (record { above = omega arith })) wide)
+      (within-larger (record { positive = omega arith }) (Fractions.nonnegative-sum
+      (Fractions.nonnegative-sum (Fractions.nonnegative-sum wide (record { above = omega arith })) (record { above = omega arith })) wide)
       (within-sum sum-within (within-negated near-supplement))))
       (oper-within (wholeHome tp tm held) (ceiling rest) sp sm)
 
@@ -88,9 +91,12 @@ pub record Near (exact : Fraction) (required k n : ℕ) : Type 0 where
   pub not-below : exact ≼ whole required
   pub close : whole required ≺ exact ⊕ quotient (k * n + 300) 100
 
-pub required-near : (g k n : ℕ) → 140 * g ≤ 100 * k → (total supplement rest : Fraction) (held tp tm sp sm : ℕ) → Within total (signedWhole tp tm) (quotient (g * n) 100) → Within (signedWhole sp sm) supplement (quotient (g * n) 100) → Proper rest → Nonnegative rest → Near (exactRequired total supplement rest held) (wholeRequired tp tm sp sm held (ceiling rest)) k n
+pub required-near : (g k n : ℕ) → 140 * g ≤ 100 * k → (total supplement rest : Fraction) (held tp tm sp sm : ℕ) →
+    Within total (signedWhole tp tm) (quotient (g * n) 100) → Within (signedWhole sp sm) supplement (quotient (g * n) 100) → Proper rest → Nonnegative rest →
+    Near (exactRequired total supplement rest held) (wholeRequired tp tm sp sm held (ceiling rest)) k n
 required-near g k n h total supplement rest held tp tm sp sm near-total near-supplement p r =
-    let w : Within (exactRequired total supplement rest held) (whole (wholeRequired tp tm sp sm held (ceiling rest))) (widthOfSum (quotient (g * n) 100) ⊕ widthOfOper (quotient (g * n) 100)) =
+    let w : Within (exactRequired total supplement rest held) (whole (wholeRequired tp tm sp sm held (ceiling rest)))
+    (widthOfSum (quotient (g * n) 100) ⊕ widthOfOper (quotient (g * n) 100)) =
     required-within total supplement rest (quotient (g * n) 100) held tp tm sp sm (record { above = omega arith }) near-total near-supplement p r in
     record {
       proper = w .lower;

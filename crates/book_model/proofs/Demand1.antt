@@ -12,7 +12,8 @@ use Rattle.exact.specs.Choice.{pick}
 use Rattle.line_forms.specs.declared.HeaderLine.{HeaderLine}
 use Rattle.line_forms.specs.declared.HeaderLine.the-variants.{Header as HeaderRead, Refusal as HeaderRefusal}
 use Rattle.line_forms.specs.declared.Line.{Line}
-use Rattle.line_forms.specs.declared.Line.the-variants.{Loan as LoanLine, Policy as PolicyLine, Derivative as DerivativeLine, Asset as AssetLine, Amount as AmountLine, Refusal}
+use Rattle.line_forms.specs.declared.Line.the-variants.{Loan as LoanLine, Policy as PolicyLine, Derivative as DerivativeLine, Asset as AssetLine}
+use Rattle.line_forms.specs.declared.Line.the-variants.{Amount as AmountLine, Refusal}
 use Rattle.line_forms.specs.Readings.{lineOf, headerOf}
 use Rattle.line_forms.proofs.HeaderLaws.{header-numbers}
 use Rattle.line_forms.proofs.LineLaws.{line-numbers}
@@ -21,7 +22,8 @@ use Rattle.figures.proofs.FiguresLaws.{figures-bounded}
 use Rattle.book_report.proofs.Lengths.{report-most}
 use Rattle.book_model.specs.declared.Book.{Book}
 use Rattle.book_model.specs.Accepted.{mostOther, loanBeyond, refusalFor}
-use Rattle.book_model.specs.Calls.{State, termsIn, stateAt, openingFor, opening, refusalIn, bookAfter, feedingLine, feeding, tooFew, closingWith, closing, closed, reportSize, reportOf, SoundBook}
+use Rattle.book_model.specs.Calls.{State, termsIn, stateAt, openingFor, opening, refusalIn, bookAfter, feedingLine, feeding, tooFew, closingWith}
+use Rattle.book_model.specs.Calls.{closing, closed, reportSize, reportOf, SoundBook}
 use Rattle.book_model.specs.Demand1.{refusedState, Demand1}
 use Rattle.book_model.specs.LineKinds.{contentKind, kindOf}
 use Rattle.book_model.proofs.Closings.{untouched}
@@ -35,7 +37,8 @@ first e = List·Memᴰ·head e
 later : {n x : ℕ} {xs : List ℕ} → List·Memᴰ n xs → List·Memᴰ n (x ∷ xs)
 later m = List·Memᴰ·tail m
 
-opening-number : (l : HeaderLine) → ((n : ℕ) → l ≡ HeaderRefusal n → (n ≡ 1) ⊎ (n ≡ 2) ⊎ (n ≡ 7) ⊎ (n ≡ 3) ⊎ (n ≡ 4)) → List·Memᴰ (openingFor l .refusal) (0 ∷ 1 ∷ 2 ∷ 7 ∷ 3 ∷ 4 ∷ [])
+opening-number : (l : HeaderLine) → ((n : ℕ) → l ≡ HeaderRefusal n → (n ≡ 1) ⊎ (n ≡ 2) ⊎ (n ≡ 7) ⊎ (n ≡ 3) ⊎ (n ≡ 4)) →
+    List·Memᴰ (openingFor l .refusal) (0 ∷ 1 ∷ 2 ∷ 7 ∷ 3 ∷ 4 ∷ [])
 unfolding openingFor
 opening-number (HeaderRead h) k = first refl
 opening-number (HeaderRefusal n) k =

@@ -14,9 +14,11 @@ use Rattle.loan_charge.specs.declared.Score.the-variants.{Scored, Unscored}
 use Rattle.line_forms.specs.declared.Header.{Header}
 use Rattle.line_forms.specs.declared.Loan.{Loan}
 use Rattle.line_forms.specs.declared.Content.{Content}
-use Rattle.line_forms.specs.declared.Content.the-variants.{Header as header, Loan as loan, Policy as policy, Derivative as derivative, Asset as asset, Amount as amount, NoForm}
+use Rattle.line_forms.specs.declared.Content.the-variants.{Header as header, Loan as loan, Policy as policy, Derivative as derivative, Asset as asset}
+use Rattle.line_forms.specs.declared.Content.the-variants.{Amount as amount, NoForm}
 use Rattle.line_forms.specs.declared.Line.{Line}
-use Rattle.line_forms.specs.declared.Line.the-variants.{Loan as LoanLine, Policy as PolicyLine, Derivative as DerivativeLine, Asset as AssetLine, Amount as AmountLine, Refusal}
+use Rattle.line_forms.specs.declared.Line.the-variants.{Loan as LoanLine, Policy as PolicyLine, Derivative as DerivativeLine, Asset as AssetLine}
+use Rattle.line_forms.specs.declared.Line.the-variants.{Amount as AmountLine, Refusal}
 use Rattle.line_forms.specs.declared.HeaderLine.{HeaderLine}
 use Rattle.line_forms.specs.declared.HeaderLine.the-variants.{Header as HeaderRead, Refusal as HeaderRefusal}
 use Rattle.line_forms.specs.Readings.{lineOf, headerOf}
@@ -27,7 +29,8 @@ use Rattle.line_forms.proofs.HeaderLaws.{header-reading, header-accepted, heade
 use Rattle.figures.specs.declared.Counts.{Counts}
 use Rattle.book_model.specs.Accepted.{Accepted, countsIn, mostOther, loanBeyond, refusalFor, refusalOf}
 use Rattle.book_model.specs.Calls.{Answer, emptyState, openingFor, opening, closingRefusal, reportSize}
-use Rattle.book_model.specs.Demand2.{Shows, ShowsInRange, OtherForm, Counted, OpeningAnswer, LoanFits, LoanBeyond, Fits, FeedingAnswer, ClosingAnswer, Demand2}
+use Rattle.book_model.specs.Demand2.{Shows, ShowsInRange, OtherForm, Counted, OpeningAnswer, LoanFits, LoanBeyond, Fits, FeedingAnswer, ClosingAnswer}
+use Rattle.book_model.specs.Demand2.{Demand2}
 use Rattle.book_model.specs.History.{opened, allFed, termsOf, acceptedOf}
 use Rattle.book_model.specs.LineKinds.{LineKind, a-loan, another, refused, contentKind, kindOf, kindCounts, unscoredCount}
 use Rattle.book_model.specs.Terms.{Terms, termsWith}
@@ -172,7 +175,8 @@ beyond-true : (h : Header) (c : Counts) (score : Score) → LoanBeyond h c score
 unfolding unscoredCount
 beyond-true h c (Scored number age) k = rw (le-leb (h .loans) (c .loans) k) refl
 beyond-true h c Unscored k =
-    ⊎-elim (λ l. rw (le-leb (h .loans) (c .loans) l) refl) (λ u. or-true (leb (h .loans) (c .loans)) (leb (h .unscored) (c .unscored)) (le-leb (h .unscored) (c .unscored) u)) k
+    ⊎-elim (λ l. rw (le-leb (h .loans) (c .loans) l) refl)
+    (λ u. or-true (leb (h .loans) (c .loans)) (leb (h .unscored) (c .unscored)) (le-leb (h .unscored) (c .unscored) u)) k
 
 fits-false : (h : Header) (c : Counts) (score : Score) → LoanFits h c score → loanBeyond h c score ≡ false
 unfolding unscoredCount
@@ -249,7 +253,8 @@ read-answer t n s {m} r e = answers t n s (by-bytes m (refused-line (lineOf s) m
 -- line reading refuses with them alone
 not-by-bytes : (s : List ℕ) (n k : ℕ) → lineOf s ≡ Refusal n → n ≡ k → (k ≡ 1 → ⊥) → (k ≡ 2 → ⊥) → (k ≡ 7 → ⊥) → (k ≡ 3 → ⊥) → ⊥
 not-by-bytes s n k e f a b c d =
-    ⊎-elim (λ (x : n ≡ 1). a (sym f ∙ x)) (⊎-elim (λ (x : n ≡ 2). b (sym f ∙ x)) (⊎-elim (λ (x : n ≡ 7). c (sym f ∙ x)) (λ (x : n ≡ 3). d (sym f ∙ x)))) (line-numbers s n e)
+    ⊎-elim (λ (x : n ≡ 1). a (sym f ∙ x)) (⊎-elim (λ (x : n ≡ 2). b (sym f ∙ x)) (⊎-elim (λ (x : n ≡ 7). c (sym f ∙ x)) (λ (x : n ≡ 3). d (sym f ∙ x))))
+    (line-numbers s n e)
 
 module _ {t : Terms} {n : Counts} {s : List ℕ} where
   rule-bytes : {k m : ℕ} → Reading m → Judged t n s k → k ≡ m → lineRefusal (lineOf s) ≡ m
@@ -315,7 +320,8 @@ opening-number (HeaderRead h) = refl
 opening-number (HeaderRefusal n) = refl
 
 -- a book opened is that of the header read
-opened-header : (l : HeaderLine) (h : Header) → ((n : ℕ) → l ≡ HeaderRefusal n → n ≡ 0 → ⊥) → openingFor l ≡ record { refusal = 0; state = emptyState (termsWith h) } → l ≡ HeaderRead h
+opened-header : (l : HeaderLine) (h : Header) → ((n : ℕ) → l ≡ HeaderRefusal n → n ≡ 0 → ⊥) →
+    openingFor l ≡ record { refusal = 0; state = emptyState (termsWith h) } → l ≡ HeaderRead h
 unfolding openingFor
 opened-header (HeaderRead x) h b e = ap HeaderRead (ap (λ (o : Answer). o .state .book .header) e)
 opened-header (HeaderRefusal n) h b e = absurd (b n refl (ap (λ (o : Answer). o .refusal) e))
@@ -327,7 +333,8 @@ opened-as s h e = ap openingFor e
 not-zero : (n : ℕ) → (n ≡ 1) ⊎ (n ≡ 2) ⊎ (n ≡ 7) ⊎ (n ≡ 3) ⊎ (n ≡ 4) → n ≡ 0 → ⊥
 not-zero n k z =
     ⊎-elim (λ (e : n ≡ 1). omega (arith, e, z))
-    (⊎-elim (λ (e : n ≡ 2). omega (arith, e, z)) (⊎-elim (λ (e : n ≡ 7). omega (arith, e, z)) (⊎-elim (λ (e : n ≡ 3). omega (arith, e, z)) (λ (e : n ≡ 4). omega (arith, e, z))))) k
+    (⊎-elim (λ (e : n ≡ 2). omega (arith, e, z)) (⊎-elim (λ (e : n ≡ 7). omega (arith, e, z))
+    (⊎-elim (λ (e : n ≡ 3). omega (arith, e, z)) (λ (e : n ≡ 4). omega (arith, e, z))))) k
 
 pub openings : (s : List ℕ) → OpeningAnswer s (opening s)
 openings s =

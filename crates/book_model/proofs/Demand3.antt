@@ -53,11 +53,13 @@ unfolding termsOf acceptedOf
 one-more past s = (refl, refl)
 
 -- one feeding more
-pub fed-is : (past : History) (s : List ℕ) → feeding (stateOf (termsOf past) (acceptedOf past)) s .state ≡ stateOf (termsOf (fed past s)) (acceptedOf (fed past s))
+pub fed-is : (past : History) (s : List ℕ) → feeding (stateOf (termsOf past) (acceptedOf past)) s .state ≡ stateOf (termsOf (fed past s))
+    (acceptedOf (fed past s))
 unfolding termsOf acceptedOf
 fed-is past s = ap (λ (a : Answer). a .state) (step (termsOf past) (acceptedOf past) s)
 
-chain : (past : History) (lines : List (List ℕ)) → afterLines (stateOf (termsOf past) (acceptedOf past)) lines ≡ stateOf (termsOf (allFed past lines)) (acceptedOf (allFed past lines))
+chain : (past : History) (lines : List (List ℕ)) → afterLines (stateOf (termsOf past) (acceptedOf past)) lines ≡ stateOf (termsOf (allFed past lines))
+    (acceptedOf (allFed past lines))
 unfolding afterLines allFed
 chain past [] = refl
 chain past (s ∷ lines) = ap (λ (x : State). afterLines x lines) (fed-is past s) ∙ chain (fed past s) lines
@@ -77,7 +79,8 @@ unfolding allFed
 terms-stay past [] = refl
 terms-stay past (s ∷ lines) = terms-stay (fed past s) lines ∙ one-more past s .0
 
-pub after-is : (header : List ℕ) (lines : List (List ℕ)) → afterLines (opening header .state) lines ≡ stateOf (termsOf (opened header)) (acceptedOf (allFed (opened header) lines))
+pub after-is : (header : List ℕ) (lines : List (List ℕ)) →
+    afterLines (opening header .state) lines ≡ stateOf (termsOf (opened header)) (acceptedOf (allFed (opened header) lines))
 after-is header lines =
     ap (λ (x : State). afterLines x lines) (opened-is header) ∙ chain (opened header) lines
     ∙ ap (λ (t : Terms). stateOf t (acceptedOf (allFed (opened header) lines))) (terms-stay (opened header) lines)
@@ -109,7 +112,8 @@ grows t a s = (λ e. rw (eq-eqb (refusalOf t a s) 0 e) refl, λ e. go (eqb (refu
     go false f e = absurd (not-itself (a .kept) s e)
 
 -- the number that closing answers is that of the accepted lines
-pub closing-number : (t : Terms) (kept : List (List ℕ)) (size : ℕ) → closing (bookOf t kept) size .refusal ≡ closingRefusal reportSize (t .header) (countsIn kept) size
+pub closing-number : (t : Terms) (kept : List (List ℕ)) (size : ℕ) →
+    closing (bookOf t kept) size .refusal ≡ closingRefusal reportSize (t .header) (countsIn kept) size
 unfolding closingWith
 closing-number t kept size = ap (λ (c : Counts). closingRefusal reportSize (t .header) c size) (counts t kept)
 
@@ -164,8 +168,10 @@ measured-of t r kept =
       after = valueLine "capital" (f .capital) ++ ratioLine (f .ratio);
       line-eight = rw (← whole-text (f .required)) (eighth f);
       read-back = digits-value (f .required);
-      not-below = at-every-order (requirement t kept) (λ v. v ≼ whole (f .required)) exponents (mapped (λ m n. (n .proper, n .not-below)) (near-taken t r kept));
-      close = at-every-order (requirement t kept) (λ v. whole (f .required) ≺ v ⊕ allowance (countsIn kept .loans)) exponents (mapped (λ m n. (n .proper, n .close)) (near-taken t r kept));
+      not-below = at-every-order (requirement t kept) (λ v. v ≼ whole (f .required)) exponents
+          (mapped (λ m n. (n .proper, n .not-below)) (near-taken t r kept));
+      close = at-every-order (requirement t kept) (λ v. whole (f .required) ≺ v ⊕ allowance (countsIn kept .loans)) exponents
+          (mapped (λ m n. (n .proper, n .close)) (near-taken t r kept));
       both = at-every-order (requirement t kept) (λ v. (v ≼ whole (f .required)) × (whole (f .required) ≺ v ⊕ allowance (countsIn kept .loans))) exponents
           (mapped (λ m n. (n .proper, (n .not-below, n .close))) (near-taken t r kept));
       orders = some-allowed (requirement t kept .exponents) exponents;

@@ -59,13 +59,15 @@ module _ {t : Terms} (g : ChargeableTerms t) where
   unfolding sumOver exponentsOver
   totals-depend [] = nothing-depends
   totals-depend (s ∷ kept) =
-      depends-sum (depends-left (exponentsOver t kept) (total-depends (lineContent (lineOf s)) (ranged s))) (depends-right (exactOf t s .total .exponents) (totals-depend kept))
+      depends-sum (depends-left (exponentsOver t kept) (total-depends (lineContent (lineOf s)) (ranged s)))
+      (depends-right (exactOf t s .total .exponents) (totals-depend kept))
 
   supplements-depend : (kept : List (List ℕ)) → DependsOn (exponentsOver t kept) (λ x. sumOver (λ s. exactOf t s .supplement .value x) kept)
   unfolding sumOver exponentsOver
   supplements-depend [] = nothing-depends
   supplements-depend (s ∷ kept) =
-      depends-sum (depends-left (exponentsOver t kept) (supplement-depends (lineContent (lineOf s)) (ranged s))) (depends-right (exactOf t s .total .exponents) (supplements-depend kept))
+      depends-sum (depends-left (exponentsOver t kept) (supplement-depends (lineContent (lineOf s)) (ranged s)))
+      (depends-right (exactOf t s .total .exponents) (supplements-depend kept))
 
   pub requirement-determined : (kept : List (List ℕ)) → Determined (requirement t kept)
   unfolding requirement exactRequired exactOper exactHome
@@ -74,4 +76,5 @@ module _ {t : Terms} (g : ChargeableTerms t) where
       let home : DependsOn (exponentsOver t kept) (λ x. exactHome (sumOver (λ s. exactOf t s .total .value x) kept) (t .header .held)) =
       depends-larger (depends-sum (totals-depend kept) (depends-constant (record { positive = omega arith }))) nothing-depends in
       depends-sum (depends-sum home rest)
-      (depends-product (depends-larger (depends-sum (depends-sum home rest) (depends-negated (supplements-depend kept))) nothing-depends) (depends-constant (record { positive = omega arith })))
+      (depends-product (depends-larger (depends-sum (depends-sum home rest) (depends-negated (supplements-depend kept))) nothing-depends)
+      (depends-constant (record { positive = omega arith })))

@@ -51,7 +51,8 @@ added : {x y : Fraction} {m n : ℕ} → InParts x m → InParts y n → InParts
 added {x} {y} {m} {n} h k =
     record {
       proper = Fractions.proper-sum (h .proper) (k .proper);
-      same = Fractions.same-trans (Fractions.proper-sum (Fractions.proper-quotient m (lit< tt)) (Fractions.proper-quotient n (lit< tt))) (Fractions.same-sum (h .same) (k .same)) (record { crossed = omega arith });
+      same = Fractions.same-trans (Fractions.proper-sum (Fractions.proper-quotient m (lit< tt)) (Fractions.proper-quotient n (lit< tt)))
+          (Fractions.same-sum (h .same) (k .same)) (record { crossed = omega arith });
     }
 
 -- A sum over lines, given for each line: `exact` takes it from what a line adds exactly, `amount` from the sums.
@@ -78,4 +79,5 @@ unfolding ceiling
 rounded-is m h = omega (arith, ceiling-alike (h .proper) (Fractions.proper-quotient (inParts m) (lit< tt)) (h .same))
 
 pub parts-nonnegative : {x : Fraction} {n : ℕ} → InParts x n → Nonnegative x
-parts-nonnegative {n = n} h = Fractions.nonnegative-same (Fractions.proper-quotient n (lit< tt)) (h .proper) (Fractions.same-sym (h .same)) (record { above = omega arith })
+parts-nonnegative {n = n} h = Fractions.nonnegative-same (Fractions.proper-quotient n (lit< tt)) (h .proper) (Fractions.same-sym (h .same))
+    (record { above = omega arith })

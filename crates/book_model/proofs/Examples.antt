@@ -30,7 +30,9 @@ use Rattle.book_model.specs.Examples.{workedHeader, workedLines, workedR
 use Rattle.book_model.proofs.Demand2.{demand2}
 
 taken : linesTaken (allFed (opened workedHeader) workedLines) ≡ workedLines
-unfolding allWithin runOf same after isNumeral valueFrom headerInRange moneyInRange assetInRange amountInRange numberAt afterNumber afterNegative signedAt afterSigned placeOf afterWord headerHeld assetHeld plainHeld signedHeld amountHeld contentOf lineFor lineOf headerFor headerOf contentKind kindCounts countsIn refusalFor accept headerIn termsOf acceptedOf allFed
+unfolding allWithin runOf same after isNumeral valueFrom headerInRange moneyInRange assetInRange amountInRange numberAt afterNumber afterNegative signedAt
+    afterSigned placeOf afterWord headerHeld assetHeld plainHeld signedHeld amountHeld contentOf lineFor lineOf headerFor headerOf contentKind kindCounts
+    countsIn refusalFor accept headerIn termsOf acceptedOf allFed
 taken = refl
 
 opens : opening workedHeader .refusal ≡ 0
@@ -39,7 +41,8 @@ opens = refl
 
 -- the header counts no loan
 pub counts-none : (termsOf (opened workedHeader) .header .loans ≡ 0) × (termsOf (opened workedHeader) .header .unscored ≡ 0)
-unfolding allWithin runOf same after isNumeral valueFrom headerInRange numberAt afterNumber placeOf afterWord headerHeld contentOf headerFor headerOf headerIn termsOf
+unfolding allWithin runOf same after isNumeral valueFrom headerInRange numberAt afterNumber placeOf afterWord headerHeld contentOf headerFor headerOf headerIn
+    termsOf
 counts-none = (refl, refl)
 
 closes : (size : ℕ) → 512 ≤ size → closing (afterLines (opening workedHeader .state) workedLines .book) size .refusal ≡ 0
@@ -47,7 +50,10 @@ closes size h = demand2 .closings workedHeader workedLines size .writes .1 (omeg
 
 -- the report of the four lines
 worked : reportFor (termsOf (opened workedHeader)) workedLines ≡ workedReport
-unfolding allWithin runOf same after isNumeral valueFrom headerInRange moneyInRange assetInRange amountInRange numberAt afterNumber afterNegative signedAt afterSigned placeOf afterWord headerHeld assetHeld plainHeld signedHeld amountHeld contentOf lineFor lineOf headerFor headerOf headerIn termsOf ceiling assetCharge shareCharge exactAmount exactShare sumOver kindCounts contentKind share assetShare amountShare sumOf sumsOf requiredOf admitted capitalOf ratioSize ratioOf figuresFor reportFor ratioLine reportText leading digits signed
+unfolding allWithin runOf same after isNumeral valueFrom headerInRange moneyInRange assetInRange amountInRange numberAt afterNumber afterNegative signedAt
+    afterSigned placeOf afterWord headerHeld assetHeld plainHeld signedHeld amountHeld contentOf lineFor lineOf headerFor headerOf headerIn termsOf
+    ceiling assetCharge shareCharge exactAmount exactShare sumOver kindCounts contentKind share assetShare amountShare sumOf sumsOf requiredOf admitted
+    capitalOf ratioSize ratioOf figuresFor reportFor ratioLine reportText leading digits signed
 worked = refl
 
 pub twelve : TwelveExamples

@@ -24,7 +24,8 @@ use Rattle.figures.proofs.SumsLaws.{plus-bounded, none-bounded, plus-none}
 use Rattle.book_model.specs.declared.Book.{Book}
 use Rattle.book_model.specs.declared.Fed.{Fed}
 use Rattle.book_model.specs.Accepted.{mostOther, loanBeyond, refusalFor}
-use Rattle.book_model.specs.Calls.{State, termsIn, fedOf, zeroHeader, emptyBook, openingFor, refusalIn, bookWith, bookAfter, feedingLine, SoundBook, Sound}
+use Rattle.book_model.specs.Calls.{State, termsIn, fedOf, zeroHeader, emptyBook, openingFor, refusalIn, bookWith, bookAfter, feedingLine, SoundBook}
+use Rattle.book_model.specs.Calls.{Sound}
 use Rattle.book_model.specs.LineKinds.{LineKind, a-loan, another, refused, contentKind, kindOf, kindCounts, unscoredCount}
 use Rattle.book_model.specs.Ranges.{Ranged, HeaderRanges, RangedHeader}
 use Rattle.book_model.specs.Share.{share}
@@ -73,10 +74,20 @@ passed false k z e = refl
 loan-room : (h : Header) (c : Counts) (s : Score) → Room h c → loanBeyond h c s ≡ false → Room h (countsSum c (kindCounts (a-loan s)))
 unfolding kindCounts unscoredCount
 loan-room h c (Scored number age) r e =
-    record { loans = omega (arith, leb-false (h .loans) (c .loans) (neither (leb (h .loans) (c .loans)) false e .0)); unscored = omega (arith, r .unscored); other = omega (arith, r .other) }
+    record {
+      loans = omega (arith, leb-false (h .loans) (c .loans) (neither (leb (h .loans) (c .loans)) false e .0));
+      unscored =
+          omega (arith, r .unscored);
+      other = omega (arith, r .other);
+    }
 loan-room h c Unscored r e =
     let n = neither (leb (h .loans) (c .loans)) (leb (h .unscored) (c .unscored)) e in
-    record { loans = omega (arith, leb-false (h .loans) (c .loans) (n .0)); unscored = omega (arith, leb-false (h .unscored) (c .unscored) (n .1)); other = omega (arith, r .other) }
+    record {
+      loans = omega (arith, leb-false (h .loans) (c .loans) (n .0));
+      unscored = omega (arith, leb-false (h .unscored) (c .unscored) (n .1));
+      other =
+          omega (arith, r .other);
+    }
 
 -- A line that is not refused keeps to the counts.
 pub room : (t : Terms) (c : Counts) (k : LineKind) → Room (t .header) c → refusalFor t c k ≡ 0 → Room (t .header) (countsSum c (kindCounts k))
@@ -91,10 +102,12 @@ pub book-room : {b : Book} → SoundBook b → Room (b .header) (b .sums .counts
 book-room h = record { loans = h .loans; unscored = h .unscored; other = h .other }
 
 -- What adding a line's sums asks.
-pub asks : {b : Book} {s : Sums} → SoundBook b → Bounded s → Room (b .header) (countsSum (b .sums .counts) (s .counts)) → Bounded (b .sums) × Bounded s × InLimits (plus (b .sums) s)
+pub asks : {b : Book} {s : Sums} → SoundBook b → Bounded s → Room (b .header) (countsSum (b .sums .counts) (s .counts)) → Bounded (b .sums) × Bounded s
+    × InLimits (plus (b .sums) s)
 asks h k r = (h .bounded, k, record { loans = omega (arith, r .loans, h .header-loans); other = r .other })
 
-more-sound : {b : Book} {s : Sums} → SoundBook b → Bounded s → Room (b .header) (countsSum (b .sums .counts) (s .counts)) → SoundBook (record { header = b .header; sums = plus (b .sums) s })
+more-sound : {b : Book} {s : Sums} → SoundBook b → Bounded s → Room (b .header) (countsSum (b .sums .counts) (s .counts)) →
+    SoundBook (record { header = b .header; sums = plus (b .sums) s })
 more-sound h k r =
     record {
       bounded = plus-bounded (h .bounded) k;
@@ -110,14 +123,16 @@ pub line-bounded : {rates : _} (h : Header) → RatesInRange rates → (c : Cont
 line-bounded {rates} h g c r = share-bounded (rates-chargeable (under h rates) g) c r
 
 -- the counts with a line more
-room-line : (s : State) (l : Line) → SoundBook (s .book) → refusalIn s l ≡ 0 → Room (s .book .header) (countsSum (s .book .sums .counts) (share (termsIn s) (lineContent l) .counts))
+room-line : (s : State) (l : Line) → SoundBook (s .book) → refusalIn s l ≡ 0 →
+    Room (s .book .header) (countsSum (s .book .sums .counts) (share (termsIn s) (lineContent l) .counts))
 room-line s l h e = rw (counted (termsIn s) (lineRefusal l) (lineContent l)) (room (termsIn s) (s .book .sums .counts) (kindOf l) (book-room h) e)
 
 pub fed-sound : (s : State) (l : Line) → Sound s → Ranged (lineContent l) → Sound (feedingLine s l .state)
 unfolding feedingLine bookAfter
 fed-sound s l h r = record { book = go (eqb (refusalIn s l) 0) refl; rates = h .rates }
   where
-    go : (t : Bool) → eqb (refusalIn s l) 0 ≡ t → SoundBook (pick t (record { header = s .book .header; sums = plus (s .book .sums) (share (termsIn s) (lineContent l)) }) (s .book))
+    go : (t : Bool) → eqb (refusalIn s l) 0 ≡ t → SoundBook
+        (pick t (record { header = s .book .header; sums = plus (s .book .sums) (share (termsIn s) (lineContent l)) }) (s .book))
     go true e =
         more-sound (h .book) (line-bounded (s .book .header) (h .rates) (lineContent l) r)
         (room-line s l (h .book) (eqb→eq (refusalIn s l) 0 (subst (λ (t : Bool). T t) (sym e) tt)))
@@ -128,6 +143,7 @@ pub fed-refused : (s : State) (n : ℕ) → record { refusal = n; book = s .book
 unfolding feedingLine bookAfter refusalFor contentKind share
 fed-refused s n = go (eqb n 0)
   where
-    go : (test : Bool) → _≡_ {A = Fed} (record { refusal = n; book = s .book }) (record { refusal = n; book = pick test (record { header = s .book .header; sums = plus (s .book .sums) noSums }) (s .book) })
+    go : (test : Bool) → _≡_ {A = Fed} (record { refusal = n; book = s .book })
+        (record { refusal = n; book = pick test (record { header = s .book .header; sums = plus (s .book .sums) noSums }) (s .book) })
     go true = λ i. record { refusal = n; book = record { header = s .book .header; sums = sym (plus-none (s .book .sums)) i } }
     go false = refl

@@ -46,12 +46,15 @@ pub record Close (total supplement : Fraction) (s : Sums) (n : ℕ) : Type 0 whe
 none-close : (s : Sums) → s .total ≡ record { plus = 0; minus = 0 } → s .supplement ≡ record { plus = 0; minus = 0 } → Close (whole 0) (whole 0) s 0
 none-close s e f =
     record {
-      near-total = rw e (within-wider (record { positive = omega arith }) (record { crossed = omega arith }) (within-same (record { positive = omega arith }) (record { positive = omega arith }) (record { crossed = refl })));
-      near-supplement = rw f (within-wider (record { positive = omega arith }) (record { crossed = omega arith }) (within-same (record { positive = omega arith }) (record { positive = omega arith }) (record { crossed = refl })));
+      near-total = rw e (within-wider (record { positive = omega arith }) (record { crossed = omega arith })
+          (within-same (record { positive = omega arith }) (record { positive = omega arith }) (record { crossed = refl })));
+      near-supplement = rw f (within-wider (record { positive = omega arith }) (record { crossed = omega arith })
+          (within-same (record { positive = omega arith }) (record { positive = omega arith }) (record { crossed = refl })));
     }
 
 -- one loan
-one-close : {total supplement : Fraction} (c : LoanCharge) (s : Sums) → s .total ≡ c .total → s .supplement ≡ c .supplement → NearExact c total supplement → Close total supplement s 1
+one-close : {total supplement : Fraction} (c : LoanCharge) (s : Sums) → s .total ≡ c .total → s .supplement ≡ c .supplement → NearExact c total supplement →
+    Close total supplement s 1
 one-close {total} {supplement} c s e f n =
     record {
       near-total = rw e (record {
@@ -81,9 +84,11 @@ sum-close : {a b c d : Fraction} {x y : Sums} {m n : ℕ} → Close a b x m → 
 sum-close {x = x} {y = y} {m = m} {n = n} h k =
     record {
       near-total = within-wider (record { positive = omega arith }) (sum-width m n)
-          (within-alike (Fractions.proper-sum (h .near-total .lower) (k .near-total .lower)) (record { positive = omega arith }) (Fractions.same-refl _) (sum-signed (x .total) (y .total)) (within-sum (h .near-total) (k .near-total)));
+          (within-alike (Fractions.proper-sum (h .near-total .lower) (k .near-total .lower)) (record { positive = omega arith }) (Fractions.same-refl _)
+          (sum-signed (x .total) (y .total)) (within-sum (h .near-total) (k .near-total)));
       near-supplement = within-wider (record { positive = omega arith }) (sum-width m n)
-          (within-alike (record { positive = omega arith }) (Fractions.proper-sum (h .near-supplement .upper) (k .near-supplement .upper)) (sum-signed (x .supplement) (y .supplement)) (Fractions.same-refl _) (within-sum (h .near-supplement) (k .near-supplement)));
+          (within-alike (record { positive = omega arith }) (Fractions.proper-sum (h .near-supplement .upper) (k .near-supplement .upper))
+          (sum-signed (x .supplement) (y .supplement)) (Fractions.same-refl _) (within-sum (h .near-supplement) (k .near-supplement)));
     }
 
 -- Terms under which every loan can be charged
@@ -119,7 +124,8 @@ line-close {t} g n c r = go (shape t c) r
     go (of-none k a b) r = rw (k n, a, b) (always (λ m. none-close _ refl refl))
 
 pub list-close : {t : Terms} → ChargeableTerms t → (kept : List (List ℕ)) →
-    Eventually (λ x. Close (sumOver (λ s. exactOf t s .total .value x) kept) (sumOver (λ s. exactOf t s .supplement .value x) kept) (sumsOf t kept) (countsIn kept .loans))
+    Eventually (λ x. Close (sumOver (λ s. exactOf t s .total .value x) kept) (sumOver (λ s. exactOf t s .supplement .value x) kept) (sumsOf t kept)
+    (countsIn kept .loans))
 unfolding sumOver sumsOf sumOf countsIn
 list-close g [] = always (λ m. none-close _ refl refl)
 list-close {t} g (s ∷ kept) =

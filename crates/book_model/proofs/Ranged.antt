@@ -4,12 +4,14 @@ use mathlib.Core.Path.{_≡_, refl}
 use mathlib.Core.List.{List}
 use Prim.Native.Nat.{ℕ}
 use Rattle.line_forms.specs.declared.Line.{Line}
-use Rattle.line_forms.specs.declared.Line.the-variants.{Loan as LoanLine, Policy as PolicyLine, Derivative as DerivativeLine, Asset as AssetLine, Amount as AmountLine, Refusal}
+use Rattle.line_forms.specs.declared.Line.the-variants.{Loan as LoanLine, Policy as PolicyLine, Derivative as DerivativeLine, Asset as AssetLine}
+use Rattle.line_forms.specs.declared.Line.the-variants.{Amount as AmountLine, Refusal}
 use Rattle.line_forms.specs.declared.HeaderLine.{HeaderLine}
 use Rattle.line_forms.specs.declared.HeaderLine.the-variants.{Header as HeaderRead, Refusal as HeaderRefusal}
 use Rattle.line_forms.specs.Claims.{lineContent}
 use Rattle.line_forms.specs.Readings.{lineOf, headerOf}
-use Rattle.line_forms.proofs.Bounds.{LoanBounds, loan-bounds, PolicyBounds, policy-bounds, DerivativeBounds, derivative-bounds, AssetBounds, asset-bounds, AmountBounds, amount-bounds, HeaderBounds, header-bounds}
+use Rattle.line_forms.proofs.Bounds.{LoanBounds, loan-bounds, PolicyBounds, policy-bounds, DerivativeBounds, derivative-bounds, AssetBounds, asset-bounds}
+use Rattle.line_forms.proofs.Bounds.{AmountBounds, amount-bounds, HeaderBounds, header-bounds}
 use Rattle.book_model.specs.Ranges.{Ranged, RangedHeader}
 
 pub ranged : (s : List ℕ) → Ranged (lineContent (lineOf s))

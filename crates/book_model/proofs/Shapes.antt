@@ -14,7 +14,8 @@ use Rattle.line_forms.specs.declared.Asset.{Asset}
 use Rattle.line_forms.specs.declared.Item.{Item}
 use Rattle.line_forms.specs.declared.Item.the-variants.{Claims, Lossc, Stated, Equity, Aoci, B, C}
 use Rattle.line_forms.specs.declared.Content.{Content}
-use Rattle.line_forms.specs.declared.Content.the-variants.{Header as header, Loan as loan, Policy as policy, Derivative as derivative, Asset as asset, Amount as amount, NoForm}
+use Rattle.line_forms.specs.declared.Content.the-variants.{Header as header, Loan as loan, Policy as policy, Derivative as derivative, Asset as asset}
+use Rattle.line_forms.specs.declared.Content.the-variants.{Amount as amount, NoForm}
 use Rattle.other_charges.specs.Charges.{claimsPercent, lossComponentsPercent, statedPercent, provisionTenths, addOnThousandths}
 use Rattle.other_charges.specs.Parts.{assetParts, shareParts, derivativeParts, provisionParts}
 use Rattle.other_charges.proofs.ChargeLaws.{InParts, asset-is, share-is, derivative-is, provision-is, multi-provision-is, tenths-bounded, add-on-bounded}
@@ -50,7 +51,8 @@ abbrev largest : ℕ
 largest = 16000000000000000000
 
 -- to rest alone, to moved alone, to capital alone
-adds-rest : {R : Type 0} (x : Fraction) (n : ℕ) → InParts x n → (R → n ≤ largest) → Adds (otherShare (moneyOf n) (moneyOf 0) zeroSigned zeroSigned 0 0) (exactOther x (whole 0)) R
+adds-rest : {R : Type 0} (x : Fraction) (n : ℕ) → InParts x n → (R → n ≤ largest) →
+    Adds (otherShare (moneyOf n) (moneyOf 0) zeroSigned zeroSigned 0 0) (exactOther x (whole 0)) R
 unfolding kindCounts
 adds-rest x n p h = record {
   rest = n;
@@ -68,7 +70,8 @@ adds-rest x n p h = record {
   bounds = λ r. let k : n ≤ largest = h r in omega arith;
 }
 
-adds-moved : {R : Type 0} (x : Fraction) (n : ℕ) → InParts x n → (R → n ≤ 100000000 * 60 * 12500) → Adds (otherShare (moneyOf 0) (moneyOf n) zeroSigned zeroSigned 0 0) (exactOther (whole 0) x) R
+adds-moved : {R : Type 0} (x : Fraction) (n : ℕ) → InParts x n → (R → n ≤ 100000000 * 60 * 12500) →
+    Adds (otherShare (moneyOf 0) (moneyOf n) zeroSigned zeroSigned 0 0) (exactOther (whole 0) x) R
 unfolding kindCounts
 adds-moved x n p h = record {
   rest = 0;
@@ -95,7 +98,8 @@ pub record CapitalInRange (equity aoci : Signed) (b c : ℕ) : Type 0 where
   pub b-most : b ≤ 100000000000
   pub c-most : c ≤ 100000000000
 
-adds-capital : {R : Type 0} (equity aoci : Signed) (b c : ℕ) → (R → CapitalInRange equity aoci b c) → Adds (otherShare (moneyOf 0) (moneyOf 0) equity aoci b c) nothing R
+adds-capital : {R : Type 0} (equity aoci : Signed) (b c : ℕ) → (R → CapitalInRange equity aoci b c) →
+    Adds (otherShare (moneyOf 0) (moneyOf 0) equity aoci b c) nothing R
 unfolding kindCounts
 adds-capital equity aoci b c h = record {
   rest = 0;
@@ -114,7 +118,8 @@ adds-capital equity aoci b c h = record {
 }
 
 -- Charges in ten-millionths are bounded.
-provision-small : (premium term completed scale : ℕ) → premium ≤ 100000000 → scale ≤ 12500 → provisionParts premium term completed scale ≤ 100000000 * 60 * 12500
+provision-small : (premium term completed scale : ℕ) → premium ≤ 100000000 → scale ≤ 12500 →
+    provisionParts premium term completed scale ≤ 100000000 * 60 * 12500
 provision-small premium term completed scale h k =
     bounded (premium * provisionTenths term completed) scale (100000000 * 60) 12500
     (bounded premium (provisionTenths term completed) 100000000 60 h (tenths-bounded term completed)) k
@@ -132,7 +137,8 @@ derivative-small d r =
 asset-small : (a : Asset) → AssetRanges a → assetParts (a .amount) (a .factor) ≤ 100000000000 * 10000 * 1000
 asset-small a r = omega (arith, bounded (a .amount) (a .factor) 100000000000 10000 (r .amount) (r .factor))
 
-policy-adds : (k : Class) (premium term completed : ℕ) → Adds (policyShare k premium term completed) (exactPolicy k premium term completed) (premium ≤ 100000000)
+policy-adds : (k : Class) (premium term completed : ℕ) → Adds (policyShare k premium term completed) (exactPolicy k premium term completed)
+    (premium ≤ 100000000)
 unfolding policyShare exactPolicy
 policy-adds Home premium term completed =
     adds-moved _ _ (provision-is premium term completed) (λ r. provision-small premium term completed 10000 r (omega arith))
@@ -184,7 +190,9 @@ shape t (header h) = of-none (λ n. refl) refl refl
 shape t (loan l) = of-loan l
 shape t (policy p) = of-other {c = policy p} (λ n. refl) (adds-within (λ r. r .premium) (policy-adds (p .class) (p .premium) (p .term) (p .completed)))
 shape t (derivative d) =
-    of-other {c = derivative d} (λ n. refl) (adds-rest _ _ (derivative-is (d .kind) (d .cost .plus) (d .cost .minus) (d .notional) (d .months) (d .payments) (d .factor)) (λ r. omega (arith, derivative-small d r)))
+    of-other {c = derivative d} (λ n. refl) (adds-rest _ _
+    (derivative-is (d .kind) (d .cost .plus) (d .cost .minus) (d .notional) (d .months) (d .payments) (d .factor))
+    (λ r. omega (arith, derivative-small d r)))
 shape t (asset a) = of-other {c = asset a} (λ n. refl) (adds-rest _ _ (asset-is (a .amount) (a .factor)) (λ r. omega (arith, asset-small a r)))
 shape t (amount a) = of-other {c = amount a} (λ n. refl) (adds-within (λ r. record { plus = r .plus; minus = r .minus }) (amount-adds (a .item) (a .amount)))
 shape t NoForm = of-none (λ n. refl) refl refl

@@ -53,7 +53,8 @@ same-refusal t a s = ap (λ (c : Counts). refusalFor t c (kindOf (lineOf s))) (c
 book-step : (t : Terms) (a : Accepted) (s : List ℕ) → bookAfter (stateOf t a) (lineOf s) ≡ bookOf t (accept t a s .kept)
 unfolding bookAfter accept
 book-step t a s =
-    ap₂ (λ (r : ℕ) (x : Sums). pick (eqb r 0) (record { header = t .header; sums = x }) (bookOf t (a .kept))) (same-refusal t a s) (sym (sums-more t (a .kept) s))
+    ap₂ (λ (r : ℕ) (x : Sums). pick (eqb r 0) (record { header = t .header; sums = x }) (bookOf t (a .kept))) (same-refusal t a s)
+    (sym (sums-more t (a .kept) s))
     ∙ by-case t (eqb (refusalOf t a s) 0) (a .kept ++ (s ∷ [])) (a .kept)
 
 pub step : (t : Terms) (a : Accepted) (s : List ℕ) → feeding (stateOf t a) s ≡ record { refusal = refusalOf t a s; state = stateOf t (accept t a s) }

@@ -11,7 +11,8 @@ use Rattle.loan_charge.specs.declared.Score.the-variants.{Scored, Unscored}
 use Rattle.line_forms.specs.declared.Header.{Header}
 use Rattle.line_forms.specs.declared.Loan.{Loan}
 use Rattle.line_forms.specs.declared.Content.{Content}
-use Rattle.line_forms.specs.declared.Content.the-variants.{Header as header, Loan as loan, Policy as policy, Derivative as derivative, Asset as asset, Amount as amount, NoForm}
+use Rattle.line_forms.specs.declared.Content.the-variants.{Header as header, Loan as loan, Policy as policy, Derivative as derivative, Asset as asset}
+use Rattle.line_forms.specs.declared.Content.the-variants.{Amount as amount, NoForm}
 use Rattle.line_forms.specs.Contents.{bytesOf, Writable, inRange}
 use Rattle.line_forms.specs.Claims.{AfterHeader, NoBytes}
 use Rattle.figures.specs.declared.Counts.{Counts}

@@ -11,10 +11,12 @@ use Rattle.line_forms.specs.declared.Class.the-variants.{Home, Multi}
 use Rattle.line_forms.specs.declared.Item.{Item}
 use Rattle.line_forms.specs.declared.Item.the-variants.{Claims, Lossc, Stated, Equity, Aoci, B, C}
 use Rattle.line_forms.specs.declared.Content.{Content}
-use Rattle.line_forms.specs.declared.Content.the-variants.{Header as header, Loan as loan, Policy as policy, Derivative as derivative, Asset as asset, Amount as amount, NoForm}
+use Rattle.line_forms.specs.declared.Content.the-variants.{Header as header, Loan as loan, Policy as policy, Derivative as derivative, Asset as asset}
+use Rattle.line_forms.specs.declared.Content.the-variants.{Amount as amount, NoForm}
 use Rattle.line_forms.specs.Claims.{lineContent}
 use Rattle.line_forms.specs.Readings.{lineOf}
-use Rattle.other_charges.specs.Charges.{assetCharge, shareCharge, claimsPercent, lossComponentsPercent, statedPercent, derivativeCharge, provision, multiProvision}
+use Rattle.other_charges.specs.Charges.{assetCharge, shareCharge, claimsPercent, lossComponentsPercent, statedPercent, derivativeCharge, provision}
+use Rattle.other_charges.specs.Charges.{multiProvision}
 use Rattle.book_model.specs.Terms.{Terms, loanInputs}
 use Rattle.book_model.specs.Requirement.{exactRequired}
 

@@ -48,7 +48,8 @@ pub record TwelveExamples : Type 0 where
   pub example8 : Example8
   pub example9 : Example9
   -- equity 600, b 500, c 100: admitted 400 and 0
-  pub example10 : (admittedB (positiveEquity (record { plus = 600; minus = 0 })) 500 ≡ 400) × (admittedC (positiveEquity (record { plus = 600; minus = 0 })) 400 100 ≡ 0)
+  pub example10 : (admittedB (positiveEquity (record { plus = 600; minus = 0 })) 500 ≡ 400)
+      × (admittedC (positiveEquity (record { plus = 600; minus = 0 })) 400 100 ≡ 0)
   -- equity 9,300, c 1,000: 700
   pub example11 : admittedC (positiveEquity (record { plus = 9300; minus = 0 })) 0 1000 ≡ 700
   -- The worked input: its header opens a book, all its lines are taken, closing is not refused, and its report is the worked one.

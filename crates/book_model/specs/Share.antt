@@ -15,7 +15,8 @@ use Rattle.line_forms.specs.declared.Amount.{Amount}
 use Rattle.line_forms.specs.declared.Item.{Item}
 use Rattle.line_forms.specs.declared.Item.the-variants.{Claims, Lossc, Stated, Equity, Aoci, B, C}
 use Rattle.line_forms.specs.declared.Content.{Content}
-use Rattle.line_forms.specs.declared.Content.the-variants.{Header as header, Loan as loan, Policy as policy, Derivative as derivative, Asset as asset, Amount as amount, NoForm}
+use Rattle.line_forms.specs.declared.Content.the-variants.{Header as header, Loan as loan, Policy as policy, Derivative as derivative, Asset as asset}
+use Rattle.line_forms.specs.declared.Content.the-variants.{Amount as amount, NoForm}
 use Rattle.other_charges.specs.Charges.{claimsPercent, lossComponentsPercent, statedPercent}
 use Rattle.other_charges.specs.Parts.{assetParts, shareParts, derivativeParts, provisionParts}
 use Rattle.figures.specs.declared.Money.{Money}

@@ -21,7 +21,8 @@ use Rattle.driver.specs.Printed.{printedFor, printedAtEnd, endedWith}
 use Rattle.driver.specs.Reading.{Stage, withLine}
 
 -- a refusal's line fits any buffer for a report
-pub refusal-room : (refusal number size : ℕ) → refusal < 18446744073709551616 → number < 18446744073709551616 → reportSize ≤ size → length (refusalLine refusal number) ≤ size
+pub refusal-room : (refusal number size : ℕ) → refusal < 18446744073709551616 → number < 18446744073709551616 → reportSize ≤ size →
+    length (refusalLine refusal number) ≤ size
 refusal-room refusal number size h k room =
     omega (arith, two-length (text "refused") (digits refusal) (digits number), digits-length 19 refusal (omega arith), digits-length 19 number (omega arith))
 
@@ -44,7 +45,8 @@ module _ (s : State) (out : List ℕ) (room : reportSize ≤ length out) where
   unfolding closingWith
   by-six t e = rw (e, le-ltb (length out) reportSize room) refl
 
-  pub closing-refused : {c : Closed} {after : List ℕ} → c ≡ closing (s .book) (length out) → after ≡ closed (s .book) out → (c .refusal ≡ 0 → ⊥) → (after ≡ out) × ((n : ℕ) → printedAtEnd s n ≡ refusalLine 6 n)
+  pub closing-refused : {c : Closed} {after : List ℕ} → c ≡ closing (s .book) (length out) → after ≡ closed (s .book) out → (c .refusal ≡ 0 → ⊥) → (after ≡ out)
+      × ((n : ℕ) → printedAtEnd s n ≡ refusalLine 6 n)
   unfolding printedAtEnd
   closing-refused {c} {after} e f h = (
     f ∙ untouched reportSize (s .book) (reportOf (s .book)) out (λ z. h (ap (λ (x : Closed). x .refusal) e ∙ z)),
@@ -55,7 +57,8 @@ module _ (s : State) (out : List ℕ) (room : reportSize ≤ length out) where
       go n true k = refl
       go n false k = absurd (h (ap (λ (x : Closed). x .refusal) e ∙ by-six false k))
 
-  pub closing-written : {c : Closed} {after : List ℕ} → c ≡ closing (s .book) (length out) → after ≡ closed (s .book) out → c .refusal ≡ 0 → (n : ℕ) → Written out (printedAtEnd s n) (c .length) after
+  pub closing-written : {c : Closed} {after : List ℕ} → c ≡ closing (s .book) (length out) → after ≡ closed (s .book) out → c .refusal ≡ 0 → (n : ℕ) →
+      Written out (printedAtEnd s n) (c .length) after
   unfolding printedAtEnd
   closing-written {c} {after} e f h n = go (tooFew (s .book .header) (s .book .sums .counts)) refl
     where

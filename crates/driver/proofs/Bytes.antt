@@ -34,7 +34,8 @@ pub cut-same : (p : Stage) (s : List ℕ) → withLine p (take 241 s) ≡ withLi
 cut-same p s = go (ltb 240 (length s)) refl
   where
     go : (t : Bool) → ltb 240 (length s) ≡ t → withLine p (take 241 s) ≡ withLine p s
-    go true e = let n : 240 < length s = omega (arith, ltb-true 240 (length s) e) in long-same p (take 241 s) s (rw (length-take-le 241 s (omega arith)) (omega arith)) n
+    go true e = let n : 240 < length s = omega (arith, ltb-true 240 (length s) e) in long-same p (take 241 s) s
+        (rw (length-take-le 241 s (omega arith)) (omega arith)) n
     go false e = rw (take-all 241 s (omega (arith, ltb-false 240 (length s) e))) refl
 
 -- The first bytes of a line, of which the first were taken before.
@@ -54,7 +55,8 @@ tail-tail line more bytes = take-front 241 (line ++ more) bytes ∙ ap (λ (l : 
 pub tail-none : (line : List ℕ) → length line ≤ 241 → line ≡ withTail line []
 tail-none line h = sym (ap (λ (l : List ℕ). take 241 l) (append-nil line) ∙ take-all 241 line h)
 
-pub tail-next : (line bytes : List ℕ) (i : ℕ) → i < length bytes → withTail (withTail line (take i bytes)) (getD bytes i 0 ∷ []) ≡ withTail line (take (i + 1) bytes)
+pub tail-next : (line bytes : List ℕ) (i : ℕ) → i < length bytes →
+    withTail (withTail line (take i bytes)) (getD bytes i 0 ∷ []) ≡ withTail line (take (i + 1) bytes)
 tail-next line bytes i h = rw (add-one i, take-suc bytes i 0 h) (tail-tail line (take i bytes) (getD bytes i 0 ∷ []))
 
 -- a byte that is held
@@ -87,7 +89,8 @@ unfolding withBytes
 bytes-append s [] b = refl
 bytes-append s (x ∷ a) b = bytes-append (withByte s x) a b
 
-bytes-next : (s : Reading) (input : List ℕ) (i : ℕ) → i < length input → withBytes s (take (i + 1) input) ≡ withByte (withBytes s (take i input)) (getD input i 0)
+bytes-next : (s : Reading) (input : List ℕ) (i : ℕ) → i < length input →
+    withBytes s (take (i + 1) input) ≡ withByte (withBytes s (take i input)) (getD input i 0)
 unfolding withBytes
 bytes-next s input i h = rw (add-one i, take-suc input i 0 h) (bytes-append s (take i input) (getD input i 0 ∷ []))
 
@@ -95,23 +98,35 @@ byte-ends : (p : Stage) (t : List ℕ) (byte : ℕ) → byte ≡ newline → wit
 unfolding withByte
 byte-ends p t byte e = rw (eq-eqb byte newline e) refl
 
-byte-tail : (p : Stage) (t : List ℕ) (byte : ℕ) → eqb byte newline ≡ false → withByte (record { stage = p; tail = t }) byte ≡ record { stage = p; tail = withTail t (byte ∷ []) }
+byte-tail : (p : Stage) (t : List ℕ) (byte : ℕ) → eqb byte newline ≡ false →
+    withByte (record { stage = p; tail = t }) byte ≡ record { stage = p; tail = withTail t (byte ∷ []) }
 unfolding withByte
 byte-tail p t byte e = rw e refl
 
 -- bytes of which none ends a line
-pub bytes-tail : (w : List ℕ) (p : Stage) (t : List ℕ) → length t ≤ 241 → unbroken w ≡ true → withBytes (record { stage = p; tail = t }) w ≡ record { stage = p; tail = withTail t w }
+pub bytes-tail : (w : List ℕ) (p : Stage) (t : List ℕ) → length t ≤ 241 → unbroken w ≡ true →
+    withBytes (record { stage = p; tail = t }) w ≡ record { stage = p; tail = withTail t w }
 unfolding withBytes unbroken
 bytes-tail [] p t h e = λ i. record { stage = p; tail = tail-none t h i }
 bytes-tail (byte ∷ w) p t h e = go (eqb byte newline) refl e (bytes-tail w p (withTail t (byte ∷ [])) (rw (length-take 241 (t ++ (byte ∷ []))) (omega arith)))
   where
-    go : (b : Bool) → eqb byte newline ≡ b → (not b && unbroken w) ≡ true → (unbroken w ≡ true → withBytes (record { stage = p; tail = withTail t (byte ∷ []) }) w ≡ record { stage = p; tail = withTail (withTail t (byte ∷ [])) w }) → withBytes (withByte (record { stage = p; tail = t }) byte) w ≡ record { stage = p; tail = withTail t (byte ∷ w) }
+    go : (b : Bool) → eqb byte newline ≡ b → (not b && unbroken w) ≡ true →
+        (unbroken w ≡ true → withBytes (record { stage = p; tail = withTail t (byte ∷ []) }) w ≡ record {
+          stage = p;
+          tail =
+              withTail (withTail t (byte ∷ [])) w;
+        }) → withBytes (withByte (record { stage = p; tail = t }) byte) w ≡ record {
+          stage = p;
+          tail =
+              withTail t (byte ∷ w);
+        }
     go true f k ih = absurd (false≢true k)
     go false f k ih =
         ap (λ (s : Reading). withBytes s w) (byte-tail p t byte f) ∙ ih k ∙ (λ i. record { stage = p; tail = tail-tail t (byte ∷ []) w i })
 
 -- bytes of which the last alone ends a line
-pub line-ended : (p : Stage) (line : List ℕ) → unbroken line ≡ true → withBytes (record { stage = p; tail = [] }) (line ++ (newline ∷ [])) ≡ record { stage = withLine p line; tail = [] }
+pub line-ended : (p : Stage) (line : List ℕ) → unbroken line ≡ true →
+    withBytes (record { stage = p; tail = [] }) (line ++ (newline ∷ [])) ≡ record { stage = withLine p line; tail = [] }
 unfolding withBytes
 line-ended p line e =
     bytes-append (record { stage = p; tail = [] }) line (newline ∷ [])
@@ -124,7 +139,11 @@ module _ (p : Stage) (t bytes : List ℕ) (few : length t ≤ 241) (end : ℕ) (
   first-part : withBytes (record { stage = p; tail = t }) (take end bytes) ≡ record { stage = p; tail = withTail t (take end bytes) }
   first-part = bytes-tail (take end bytes) p t few (rw found (index-unbroken bytes))
 
-  pub first-line : end < length bytes → withBytes (record { stage = p; tail = t }) (take (end + 1) bytes) ≡ record { stage = withLine p (withTail t (take end bytes)); tail = [] }
+  pub first-line : end < length bytes → withBytes (record { stage = p; tail = t }) (take (end + 1) bytes) ≡ record {
+    stage =
+        withLine p (withTail t (take end bytes));
+    tail = [];
+  }
   first-line h =
       let at : getD bytes end 0 ≡ newline = rw found (index-at bytes (omega arith)) in
       bytes-next (record { stage = p; tail = t }) bytes end h ∙ ap (λ (x : Reading). withByte x (getD bytes end 0)) first-part
@@ -134,7 +153,8 @@ module _ (p : Stage) (t bytes : List ℕ) (few : length t ≤ 241) (end : ℕ) (
   no-line e = ap (withBytes (record { stage = p; tail = t })) (sym (take-all end bytes (omega arith))) ∙ first-part
 
 -- A line that begins at i, after all that stands before it.
-pub line-read : (s : Reading) (bytes : List ℕ) (p : Stage) (i end : ℕ) → record { stage = p; tail = [] } ≡ withBytes s (take i bytes) → i ≤ end → end ≡ i + indexOf newline (drop i bytes) → end < length bytes →
+pub line-read : (s : Reading) (bytes : List ℕ) (p : Stage) (i end : ℕ) → record { stage = p; tail = [] } ≡ withBytes s (take i bytes) → i ≤ end →
+    end ≡ i + indexOf newline (drop i bytes) → end < length bytes →
     withBytes s (take (end + 1) bytes) ≡ record { stage = withLine p (take (end - i) (drop i bytes)); tail = [] }
 line-read s bytes p i end so-far inside found h =
     let n : length (drop i bytes) ≡ length bytes - i = length-drop i bytes in

@@ -27,7 +27,8 @@ unfolding unbroken indexOf indexAfter
 index-skips [] b e = sym (omega arith)
 index-skips (x ∷ a) b e = go (eqb x newline) e (index-skips a b)
   where
-    go : (t : Bool) → (not t && unbroken a) ≡ true → (unbroken a ≡ true → indexOf newline (a ++ b) ≡ length a + indexOf newline b) → indexAfter t (indexOf newline (a ++ b)) ≡ suc (length a) + indexOf newline b
+    go : (t : Bool) → (not t && unbroken a) ≡ true → (unbroken a ≡ true → indexOf newline (a ++ b) ≡ length a + indexOf newline b) →
+        indexAfter t (indexOf newline (a ++ b)) ≡ suc (length a) + indexOf newline b
     go true k ih = absurd (false≢true k)
     go false k ih = omega (arith, ih k)
 
@@ -45,7 +46,8 @@ unfolding indexOf indexAfter
 index-at [] h = absurd (omega arith)
 index-at (x ∷ s) h = go (eqb x newline) refl h (index-at s)
   where
-    go : (t : Bool) → eqb x newline ≡ t → indexAfter t (indexOf newline s) < suc (length s) → (indexOf newline s < length s → getD s (indexOf newline s) 0 ≡ newline) → getD (x ∷ s) (indexAfter t (indexOf newline s)) 0 ≡ newline
+    go : (t : Bool) → eqb x newline ≡ t → indexAfter t (indexOf newline s) < suc (length s) →
+        (indexOf newline s < length s → getD s (indexOf newline s) 0 ≡ newline) → getD (x ∷ s) (indexAfter t (indexOf newline s)) 0 ≡ newline
     go true e k ih = eqb-true x newline e
     go false e k ih = ih (omega arith)
 
@@ -59,7 +61,8 @@ index-inside (x ∷ s) = go (eqb x newline) (index-inside s)
     go false ih = omega arith
 
 -- one byte more of a block
-pub unbroken-next : (block : List ℕ) (i : ℕ) → i < length block → unbroken (take (i + 1) block) ≡ (unbroken (take i block) && (not (eqb (getD block i 0) newline)))
+pub unbroken-next : (block : List ℕ) (i : ℕ) → i < length block →
+    unbroken (take (i + 1) block) ≡ (unbroken (take i block) && (not (eqb (getD block i 0) newline)))
 unfolding unbroken
 unbroken-next block i h = rw (add-one i, take-suc block i 0 h) (unbroken-append (take i block) (getD block i 0 ∷ []) ∙ go (not (eqb (getD block i 0) newline)))
   where
@@ -68,7 +71,8 @@ unbroken-next block i h = rw (add-one i, take-suc block i 0 h) (unbroken-append 
     go false = refl
 
 -- a block in which no line ends is skipped
-pub block-skipped : (chunk : List ℕ) (i n : ℕ) → n ≤ length (drop i chunk) → unbroken (take n (drop i chunk)) ≡ true → i + indexOf newline (drop i chunk) ≡ (i + n) + indexOf newline (drop (i + n) chunk)
+pub block-skipped : (chunk : List ℕ) (i n : ℕ) → n ≤ length (drop i chunk) → unbroken (take n (drop i chunk)) ≡ true →
+    i + indexOf newline (drop i chunk) ≡ (i + n) + indexOf newline (drop (i + n) chunk)
 block-skipped chunk i n h e =
     let k : indexOf newline (drop i chunk) ≡ n + indexOf newline (drop (i + n) chunk) =
     ap (indexOf newline) (sym (take-append-drop n (drop i chunk))) ∙ index-skips (take n (drop i chunk)) (drop n (drop i chunk)) e

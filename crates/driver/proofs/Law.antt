@@ -25,11 +25,13 @@ use Rattle.driver.proofs.Answers.{printed-refused, printed-empty, print
 use Rattle.driver.specs.Printed.{lastOf, linesFrom, linesOf, printedFeeding, printedLines, printed, printedFor, endedWith, ended}
 
 -- the reading after a byte, with the whole line in place of its first bytes
-byte-newline : (p : Stage) (line : List ℕ) (byte : ℕ) → eqb byte newline ≡ true → withByte (record { stage = p; tail = take 241 line }) byte ≡ record { stage = withLine p line; tail = take 241 [] }
+byte-newline : (p : Stage) (line : List ℕ) (byte : ℕ) → eqb byte newline ≡ true →
+    withByte (record { stage = p; tail = take 241 line }) byte ≡ record { stage = withLine p line; tail = take 241 [] }
 unfolding withByte
 byte-newline p line byte e = rw e (λ i. record { stage = cut-same p line i; tail = [] })
 
-byte-other : (p : Stage) (line : List ℕ) (byte : ℕ) → eqb byte newline ≡ false → withByte (record { stage = p; tail = take 241 line }) byte ≡ record { stage = p; tail = take 241 (line ++ (byte ∷ [])) }
+byte-other : (p : Stage) (line : List ℕ) (byte : ℕ) → eqb byte newline ≡ false →
+    withByte (record { stage = p; tail = take 241 line }) byte ≡ record { stage = p; tail = take 241 (line ++ (byte ∷ [])) }
 unfolding withByte
 byte-other p line byte e = rw e (λ i. record { stage = p; tail = take-front 241 line (byte ∷ []) i })
 
@@ -45,7 +47,8 @@ refused-byte : (s : Reading) (byte : ℕ) → (s .stage .refusal ≡ 0 → ⊥) 
 unfolding withByte
 refused-byte s byte h = go (eqb byte newline)
   where
-    go : (t : Bool) → pick {A = Reading} t (record { stage = withLine (s .stage) (s .tail); tail = [] }) (record { stage = s .stage; tail = withTail (s .tail) (byte ∷ []) }) .stage ≡ s .stage
+    go : (t : Bool) → pick {A = Reading} t (record { stage = withLine (s .stage) (s .tail); tail = [] })
+        (record { stage = s .stage; tail = withTail (s .tail) (byte ∷ []) }) .stage ≡ s .stage
     go true = sym (line-refused (s .stage) (s .tail) h)
     go false = refl
 
@@ -60,13 +63,17 @@ unfolding withLines lastOf endedWith
 last-line p [] = refl
 last-line p (byte ∷ line) = cut-same p (byte ∷ line)
 
-bytes-lines : (input : List ℕ) (p : Stage) (line : List ℕ) → ended (withBytes (record { stage = p; tail = take 241 line }) input) ≡ withLines p (linesFrom line input)
+bytes-lines : (input : List ℕ) (p : Stage) (line : List ℕ) →
+    ended (withBytes (record { stage = p; tail = take 241 line }) input) ≡ withLines p (linesFrom line input)
 unfolding withBytes linesFrom withLines
 bytes-lines [] p line = last-line p line
 bytes-lines (byte ∷ bytes) p line =
     go (eqb byte newline) refl (bytes-lines bytes (withLine p line) []) (bytes-lines bytes p (line ++ (byte ∷ [])))
   where
-    go : (t : Bool) → eqb byte newline ≡ t → ended (withBytes (record { stage = withLine p line; tail = take 241 [] }) bytes) ≡ withLines (withLine p line) (linesFrom [] bytes) → ended (withBytes (record { stage = p; tail = take 241 (line ++ (byte ∷ [])) }) bytes) ≡ withLines p (linesFrom (line ++ (byte ∷ [])) bytes) → ended (withBytes (withByte (record { stage = p; tail = take 241 line }) byte) bytes) ≡ withLines p (pick t (line ∷ linesFrom [] bytes) (linesFrom (line ++ (byte ∷ [])) bytes))
+    go : (t : Bool) → eqb byte newline ≡ t → ended (withBytes (record { stage = withLine p line; tail = take 241 [] }) bytes) ≡ withLines (withLine p line)
+        (linesFrom [] bytes) → ended (withBytes (record { stage = p; tail = take 241 (line ++ (byte ∷ [])) }) bytes) ≡ withLines p
+        (linesFrom (line ++ (byte ∷ [])) bytes) → ended (withBytes (withByte (record { stage = p; tail = take 241 line }) byte) bytes) ≡ withLines p
+        (pick t (line ∷ linesFrom [] bytes) (linesFrom (line ++ (byte ∷ [])) bytes))
     go true e x y = ended-by bytes (byte-newline p line byte e) ∙ x
     go false e x y = ended-by bytes (byte-other p line byte e) ∙ y
 
@@ -79,7 +86,8 @@ refused-lines p (line ∷ lines) h = ap (λ (q : Stage). withLines q lines) (sym
 
 -- after a line of this number that got this answer
 answered-lines : (a : Answer) (number : ℕ) (lines : List (List ℕ)) →
-    printedFor (withLines (after a number) lines) ≡ pick (eqb (a .refusal) 0) (printedFor (withLines (record { refusal = 0; number = number + 1; state = a .state }) lines)) (refusalLine (a .refusal) number)
+    printedFor (withLines (after a number) lines) ≡ pick (eqb (a .refusal) 0)
+    (printedFor (withLines (record { refusal = 0; number = number + 1; state = a .state }) lines)) (refusalLine (a .refusal) number)
 answered-lines a number lines = go (eqb (a .refusal) 0) refl
   where
     go : (t : Bool) → eqb (a .refusal) 0 ≡ t →
@@ -90,13 +98,15 @@ answered-lines a number lines = go (eqb (a .refusal) 0) refl
         ap printedFor (refused-lines (record { refusal = a .refusal; number = number; state = a .state }) lines (eqb-false (a .refusal) 0 e))
         ∙ printed-refused (record { refusal = a .refusal; number = number; state = a .state }) (eqb-false (a .refusal) 0 e)
 
-feeding-lines : (lines : List (List ℕ)) (s : State) (number : ℕ) → 2 ≤ number → printedFor (withLines (record { refusal = 0; number = number; state = s }) lines) ≡ printedFeeding s number lines
+feeding-lines : (lines : List (List ℕ)) (s : State) (number : ℕ) → 2 ≤ number →
+    printedFor (withLines (record { refusal = 0; number = number; state = s }) lines) ≡ printedFeeding s number lines
 unfolding withLines printedFeeding
 feeding-lines [] s number h = printed-end (record { refusal = 0; number = number; state = s }) refl (λ e. omega arith)
 feeding-lines (line ∷ lines) s number h =
     ap (λ (q : Stage). printedFor (withLines q lines)) (sym (line-fed (record { refusal = 0; number = number; state = s }) line refl (λ e. omega arith)))
     ∙ answered-lines (feeding s line) number lines
-    ∙ ap (λ (x : List ℕ). pick (eqb (feeding s line .refusal) 0) x (refusalLine (feeding s line .refusal) number)) (feeding-lines lines (feeding s line .state) (number + 1) (omega arith))
+    ∙ ap (λ (x : List ℕ). pick (eqb (feeding s line .refusal) 0) x (refusalLine (feeding s line .refusal) number))
+    (feeding-lines lines (feeding s line .state) (number + 1) (omega arith))
 
 start-lines : (lines : List (List ℕ)) → printedFor (withLines atStart lines) ≡ printedLines lines
 unfolding withLines printedLines
@@ -104,7 +114,8 @@ start-lines [] = printed-empty atStart refl refl
 start-lines (line ∷ lines) =
     ap (λ (q : Stage). printedFor (withLines q lines)) (sym (line-opens atStart line refl refl))
     ∙ answered-lines (opening line) 1 lines
-    ∙ ap (λ (x : List ℕ). pick (eqb (opening line .refusal) 0) x (refusalLine (opening line .refusal) 1)) (feeding-lines lines (opening line .state) 2 (omega arith))
+    ∙ ap (λ (x : List ℕ). pick (eqb (opening line .refusal) 0) x (refusalLine (opening line .refusal) 1))
+    (feeding-lines lines (opening line .state) 2 (omega arith))
 
 -- What is printed is a function of the whole input.
 pub whole : (input : List ℕ) → printedFor (ended (withBytes fromStart input)) ≡ printed input
@@ -123,7 +134,8 @@ long-refused : (p : Stage) (line : List ℕ) → 240 < length line → withLine 
 unfolding withLine openingFor feedingLine refusalFor contentKind
 long-refused p line h = go (eqb (p .refusal) 0) refl (eqb (p .number) 1)
   where
-    go : (a : Bool) → eqb (p .refusal) 0 ≡ a → (b : Bool) → pick {A = Stage} a (after (pick b (opening line) (feeding (p .state) line)) (p .number)) p .refusal ≡ 0 → ⊥
+    go : (a : Bool) → eqb (p .refusal) 0 ≡ a → (b : Bool) →
+        pick {A = Stage} a (after (pick b (opening line) (feeding (p .state) line)) (p .number)) p .refusal ≡ 0 → ⊥
     go true f true e = let k : openingFor (HeaderRefusal 1) .refusal ≡ 0 = rw (long-header line h) at e in omega (arith, k)
     go true f false e = let k : feedingLine (p .state) (Refusal 1) .refusal ≡ 0 = rw (long-line line h) at e in omega (arith, k)
     go false f b e = eqb-false (p .refusal) 0 f e
@@ -133,7 +145,8 @@ unfolding endedWith
 ended-long p [] h = absurd (omega arith)
 ended-long p (byte ∷ line) h = refl
 
-long-stays : (input : List ℕ) (p : Stage) (line : List ℕ) → 240 < length line → length line ≤ 241 → printedFor (ended (withBytes (record { stage = p; tail = line }) input)) ≡ printedFor (withLine p line)
+long-stays : (input : List ℕ) (p : Stage) (line : List ℕ) → 240 < length line → length line ≤ 241 →
+    printedFor (ended (withBytes (record { stage = p; tail = line }) input)) ≡ printedFor (withLine p line)
 unfolding withBytes withByte
 long-stays [] p line h k = ap printedFor (ended-long p line h)
 long-stays (byte ∷ bytes) p line h k = go (eqb byte newline) (long-stays bytes p line h k)
@@ -143,7 +156,8 @@ long-stays (byte ∷ bytes) p line h k = go (eqb byte newline) (long-stays bytes
     same = take-append-le 241 line (byte ∷ []) (omega arith) ∙ take-all 241 line k
 
     go : (t : Bool) → printedFor (ended (withBytes (record { stage = p; tail = line }) bytes)) ≡ printedFor (withLine p line) →
-        printedFor (ended (withBytes (pick {A = Reading} t (record { stage = withLine p line; tail = [] }) (record { stage = p; tail = withTail line (byte ∷ []) })) bytes)) ≡ printedFor (withLine p line)
+        printedFor (ended (withBytes (pick {A = Reading} t (record { stage = withLine p line; tail = [] })
+        (record { stage = p; tail = withTail line (byte ∷ []) })) bytes)) ≡ printedFor (withLine p line)
     go true ih = refused-stays bytes (record { stage = withLine p line; tail = [] }) (long-refused p line h)
     go false ih = ap (λ (l : List ℕ). printedFor (ended (withBytes (record { stage = p; tail = l }) bytes))) same ∙ ih
 
@@ -153,7 +167,8 @@ unfolding withBytes withByte
 held-few [] s h = h
 held-few (byte ∷ bytes) s h = held-few bytes (withByte s byte) (go (eqb byte newline))
   where
-    go : (t : Bool) → length (pick {A = Reading} t (record { stage = withLine (s .stage) (s .tail); tail = [] }) (record { stage = s .stage; tail = withTail (s .tail) (byte ∷ []) }) .tail) ≤ 241
+    go : (t : Bool) → length (pick {A = Reading} t (record { stage = withLine (s .stage) (s .tail); tail = [] })
+        (record { stage = s .stage; tail = withTail (s .tail) (byte ∷ []) }) .tail) ≤ 241
     go true = omega arith
     go false = rw (length-take 241 (s .tail ++ (byte ∷ []))) (omega arith)
 

@@ -37,7 +37,12 @@ pub line-number : (p : Stage) (line : List ℕ) → withLine p line .number ≤ 
 unfolding withLine
 line-number p line = go (eqb (p .refusal) 0) (eqb (answerTo p line .refusal) 0)
   where
-    go : (a b : Bool) → pick {A = Stage} a (record { refusal = answerTo p line .refusal; number = pick b (p .number + 1) (p .number); state = answerTo p line .state }) p .number ≤ p .number + 1
+    go : (a b : Bool) → pick {A = Stage} a (record {
+      refusal = answerTo p line .refusal;
+      number = pick b (p .number + 1) (p .number);
+      state =
+          answerTo p line .state;
+    }) p .number ≤ p .number + 1
     go true true = omega arith
     go true false = omega arith
     go false b = omega arith
@@ -67,7 +72,8 @@ unfolding feedingLine
 fed-rates s line = refl
 
 -- the stage of a progress that an answer gave
-answer-stage : (a : Answer) (rates : List ℕ) → a .state .rates ≡ rates → (number : ℕ) → stageAt (progressAfter (a .refusal) number (a .state .book)) rates ≡ after a number
+answer-stage : (a : Answer) (rates : List ℕ) → a .state .rates ≡ rates → (number : ℕ) →
+    stageAt (progressAfter (a .refusal) number (a .state .book)) rates ≡ after a number
 answer-stage a rates e number = λ i. record {
   refusal = a .refusal;
   number = pick (eqb (a .refusal) 0) (number + 1) number;
@@ -78,26 +84,33 @@ answer-stage a rates e number = λ i. record {
 abbrev pub Ended : Progress → List ℕ → List ℕ → Progress → Type 0
 Ended p rates line q = (stageAt q rates ≡ withLine (stageAt p rates) line) × (Sound (stateAt (q .book) rates) × (q .number ≤ p .number + 1))
 
-pub ended-by : (p : Progress) (rates line : List ℕ) (q : Progress) → Sound (stateAt (p .book) rates) → stageAt q rates ≡ withLine (stageAt p rates) line → Ended p rates line q
+pub ended-by : (p : Progress) (rates line : List ℕ) (q : Progress) → Sound (stateAt (p .book) rates) → stageAt q rates ≡ withLine (stageAt p rates) line →
+    Ended p rates line q
 ended-by p rates line q h e = (
   e,
-  (subst (λ (x : Stage). Sound (x .state)) (sym e) (line-sound (stageAt p rates) line h), subst (λ (x : Stage). x .number ≤ p .number + 1) (sym e) (line-number (stageAt p rates) line)),
+  (
+    subst (λ (x : Stage). Sound (x .state)) (sym e) (line-sound (stageAt p rates) line h),
+    subst (λ (x : Stage). x .number ≤ p .number + 1) (sym e) (line-number (stageAt p rates) line),
+  ),
 )
 
 module _ (p : Progress) (rates line : List ℕ) (sound : Sound (stateAt (p .book) rates)) where
   pub ended-refused : (p .refusal ≡ 0 → ⊥) → Ended p rates line p
   ended-refused h = ended-by p rates line p sound (line-refused (stageAt p rates) line h)
 
-  pub ended-opened : (o : Opened) {q : Progress} → rates ≡ builtInRates → p .refusal ≡ 0 → p .number ≡ 1 → o ≡ openedOf (opening line) → q ≡ progressAfter (o .refusal) (p .number) (o .book) → Ended p rates line q
+  pub ended-opened : (o : Opened) {q : Progress} → rates ≡ builtInRates → p .refusal ≡ 0 → p .number ≡ 1 → o ≡ openedOf (opening line) →
+      q ≡ progressAfter (o .refusal) (p .number) (o .book) → Ended p rates line q
   ended-opened o {q} t e f g h =
       ended-by p rates line q sound
       (ap (λ (x : Progress). stageAt x rates) h
       ∙ ap (λ (x : Opened). stageAt (progressAfter (x .refusal) (p .number) (x .book)) rates) g
       ∙ answer-stage (opening line) rates (opened-rates (headerOf line) ∙ sym t) (p .number) ∙ line-opens (stageAt p rates) line e f)
 
-  pub ended-fed : (o : Fed) {q : Progress} → p .refusal ≡ 0 → (p .number ≡ 1 → ⊥) → o ≡ fedOf (feeding (stateAt (p .book) rates) line) → q ≡ progressAfter (o .refusal) (p .number) (o .book) → Ended p rates line q
+  pub ended-fed : (o : Fed) {q : Progress} → p .refusal ≡ 0 → (p .number ≡ 1 → ⊥) → o ≡ fedOf (feeding (stateAt (p .book) rates) line) →
+      q ≡ progressAfter (o .refusal) (p .number) (o .book) → Ended p rates line q
   ended-fed o {q} e f g h =
       ended-by p rates line q sound
       (ap (λ (x : Progress). stageAt x rates) h
       ∙ ap (λ (x : Fed). stageAt (progressAfter (x .refusal) (p .number) (x .book)) rates) g
-      ∙ answer-stage (feeding (stateAt (p .book) rates) line) rates (fed-rates (stateAt (p .book) rates) line) (p .number) ∙ line-fed (stageAt p rates) line e f)
+      ∙ answer-stage (feeding (stateAt (p .book) rates) line) rates (fed-rates (stateAt (p .book) rates) line) (p .number)
+      ∙ line-fed (stageAt p rates) line e f)

@@ -34,7 +34,8 @@ fed-more past [] line = refl
 fed-more past (s ∷ lines) line = fed-more (fed past s) lines line
 
 -- all lines before are taken, and so is this one
-taken-more : (header : List ℕ) (before : List (List ℕ)) (line : List ℕ) → AllTaken header before → refusalOf (termsOf (opened header)) (record { kept = before }) line ≡ 0 → AllTaken header (before ++ (line ∷ []))
+taken-more : (header : List ℕ) (before : List (List ℕ)) (line : List ℕ) → AllTaken header before →
+    refusalOf (termsOf (opened header)) (record { kept = before }) line ≡ 0 → AllTaken header (before ++ (line ∷ []))
 unfolding acceptedOf accept
 taken-more header before line h e =
     let t : Terms = termsOf (opened header) in
@@ -46,7 +47,8 @@ taken-more header before line h e =
           ∙ rw (eq-eqb (refusalOf t (record { kept = before }) line) 0 e) refl;
     }
 
-accepted-more : (t : Terms) (before : List (List ℕ)) (line : List ℕ) → refusalOf t (record { kept = before }) line ≡ 0 → accept t (record { kept = before }) line ≡ record { kept = before ++ (line ∷ []) }
+accepted-more : (t : Terms) (before : List (List ℕ)) (line : List ℕ) → refusalOf t (record { kept = before }) line ≡ 0 →
+    accept t (record { kept = before }) line ≡ record { kept = before ++ (line ∷ []) }
 unfolding accept
 accepted-more t before line e = rw (eq-eqb (refusalOf t (record { kept = before }) line) 0 e) refl
 
@@ -69,7 +71,8 @@ atEnd t lines number = pick (tooFew (t .header) (countsIn lines)) (refusalLine 6
 end-is : (header : List ℕ) (lines : List (List ℕ)) (number : ℕ) → printedAtEnd (stateFor header lines) number ≡ atEnd (termsOf (opened header)) lines number
 unfolding printedAtEnd stateFor
 end-is header lines number =
-    ap₂ (λ (c : Counts) (r : List ℕ). pick (tooFew (termsOf (opened header) .header) c) (refusalLine 6 number) r) (counts (termsOf (opened header)) lines) (report-is (termsOf (opened header)) lines)
+    ap₂ (λ (c : Counts) (r : List ℕ). pick (tooFew (termsOf (opened header) .header) c) (refusalLine 6 number) r) (counts (termsOf (opened header)) lines)
+    (report-is (termsOf (opened header)) lines)
 
 at-end : (header : List ℕ) (lines : List (List ℕ)) → AllTaken header lines → Outcome (header ∷ lines) (atEnd (termsOf (opened header)) lines (2 + length lines))
 at-end header lines h = go (tooFew (termsOf (opened header) .header) (countsIn lines)) refl
@@ -97,12 +100,14 @@ feeding-on header before (line ∷ lines) h number e =
         (AllTaken header (before ++ (line ∷ [])) → (k : ℕ) → k ≡ 2 + length (before ++ (line ∷ [])) →
         Outcome (header ∷ ((before ++ (line ∷ [])) ++ lines)) (printedFeeding (stateFor header (before ++ (line ∷ []))) k lines)) →
         Outcome (header ∷ (before ++ (line ∷ lines)))
-        (pick b (printedFeeding (stateOf (termsOf (opened header)) (accept (termsOf (opened header)) (record { kept = before }) line)) (number + 1) lines) (refusalLine n number))
+        (pick b (printedFeeding (stateOf (termsOf (opened header)) (accept (termsOf (opened header)) (record { kept = before }) line)) (number + 1) lines)
+        (refusalLine n number))
     go true f ih =
         let z : n ≡ 0 = eqb-true n 0 f in
         let more : AllTaken header (before ++ (line ∷ [])) = taken-more header before line h z in
         let m : length (before ++ (line ∷ [])) ≡ length before + 1 = length-append before (line ∷ []) in
-        let same : accept (termsOf (opened header)) (record { kept = before }) line ≡ record { kept = before ++ (line ∷ []) } = accepted-more (termsOf (opened header)) before line z in
+        let same : accept (termsOf (opened header)) (record { kept = before }) line ≡ record { kept = before ++ (line ∷ []) } =
+        accepted-more (termsOf (opened header)) before line z in
         rw same (rw (append-assoc before (line ∷ []) lines) at (ih more (number + 1) (omega arith)))
     go false f ih = rw e (not-taken header before line lines n (eqb-false n 0 f) h (feeding-answer (termsOf (opened header)) (record { kept = before }) line))
 
@@ -120,7 +125,8 @@ unfolding printedLines
 outcome [] = no-line
 outcome (header ∷ lines) = rw (opened-state header) (go (eqb (opening header .refusal) 0) refl)
   where
-    go : (b : Bool) → eqb (opening header .refusal) 0 ≡ b → Outcome (header ∷ lines) (pick b (printedFeeding (stateFor header []) 2 lines) (refusalLine (opening header .refusal) 1))
+    go : (b : Bool) → eqb (opening header .refusal) 0 ≡ b →
+        Outcome (header ∷ lines) (pick b (printedFeeding (stateFor header []) 2 lines) (refusalLine (opening header .refusal) 1))
     go true e = feeding-on header [] lines (none-taken header (eqb-true (opening header .refusal) 0 e)) 2 refl
     go false e = not-opened header lines (opening header .refusal) (eqb-false (opening header .refusal) 0 e) refl (openings header)
 
@@ -145,17 +151,20 @@ taken-few past [] = omega arith
 taken-few past (line ∷ lines) = omega (arith, taken-few (fed past line) lines, accepted-few (termsOf past) (acceptedOf past) line)
 
 -- a refused line among them would be missing
-none-refused : (header : List ℕ) (before : List (List ℕ)) (line : List ℕ) (lines : List (List ℕ)) → AllTaken header before → AllTaken header (before ++ (line ∷ lines)) →
+none-refused : (header : List ℕ) (before : List (List ℕ)) (line : List ℕ) (lines : List (List ℕ)) → AllTaken header before →
+    AllTaken header (before ++ (line ∷ lines)) →
     eqb (refusalOf (termsOf (opened header)) (record { kept = before }) line) 0 ≡ false → ⊥
 unfolding allFed acceptedOf accept
 none-refused header before line lines h k e =
     let past : History = fed (allFed (opened header) before) line in
     let same : linesTaken (fed (allFed (opened header) before) line) ≡ before =
     ap₂ (λ (u : Terms) (kept : List (List ℕ)). accept u (record { kept = kept }) line .kept) (terms-stay (opened header) before) (h .taken) ∙ rw e refl in
-    let all : linesTaken (allFed past lines) ≡ before ++ (line ∷ lines) = sym (ap (λ (x : History). linesTaken x) (fed-on (opened header) before (line ∷ lines))) ∙ k .taken in
+    let all : linesTaken (allFed past lines) ≡ before ++ (line ∷ lines) =
+    sym (ap (λ (x : History). linesTaken x) (fed-on (opened header) before (line ∷ lines))) ∙ k .taken in
     omega (arith, taken-few past lines, ap length same, ap length all, length-append before (line ∷ lines))
 
-all-fed : (header : List ℕ) (before lines : List (List ℕ)) (number : ℕ) → AllTaken header before → AllTaken header (before ++ lines) → number ≡ 2 + length before →
+all-fed : (header : List ℕ) (before lines : List (List ℕ)) (number : ℕ) → AllTaken header before → AllTaken header (before ++ lines) →
+    number ≡ 2 + length before →
     printedFeeding (stateFor header before) number lines ≡ printedAtEnd (stateFor header (before ++ lines)) (2 + length (before ++ lines))
 unfolding printedFeeding
 all-fed header before [] number h k e = rw (append-nil before, e) refl
@@ -170,8 +179,10 @@ all-fed header before (line ∷ lines) number h k e =
 
     go : (b : Bool) → eqb n 0 ≡ b →
         ((m : ℕ) → AllTaken header (before ++ (line ∷ [])) → AllTaken header ((before ++ (line ∷ [])) ++ lines) → m ≡ 2 + length (before ++ (line ∷ [])) →
-        printedFeeding (stateFor header (before ++ (line ∷ []))) m lines ≡ printedAtEnd (stateFor header ((before ++ (line ∷ [])) ++ lines)) (2 + length ((before ++ (line ∷ [])) ++ lines))) →
-        printedFeeding (stateFor header before) number (line ∷ lines) ≡ printedAtEnd (stateFor header (before ++ (line ∷ lines))) (2 + length (before ++ (line ∷ lines)))
+        printedFeeding (stateFor header (before ++ (line ∷ []))) m lines ≡ printedAtEnd (stateFor header ((before ++ (line ∷ [])) ++ lines))
+        (2 + length ((before ++ (line ∷ [])) ++ lines))) →
+        printedFeeding (stateFor header before) number (line ∷ lines) ≡ printedAtEnd (stateFor header (before ++ (line ∷ lines)))
+        (2 + length (before ++ (line ∷ lines)))
     go true f ih =
         let z : refusalOf (termsOf (opened header)) (record { kept = before }) line ≡ 0 = eqb-true n 0 f in
         let m : length (before ++ (line ∷ [])) ≡ length before + 1 = length-append before (line ∷ []) in

@@ -30,7 +30,8 @@ pub data Outcome : (lines : List (List ℕ)) (out : List ℕ) → Type 0 where
       OpeningAnswer header (opening header) → Outcome (header ∷ lines) (refusalLine n 1)
   -- All lines before it are taken and this one is refused with n: (refused n L), L its number.
   not-taken : (header : List ℕ) (before : List (List ℕ)) (line : List ℕ) (others : List (List ℕ)) (n : ℕ) → (n ≡ 0 → ⊥) → AllTaken header before →
-      FeedingAnswer (termsOf (opened header)) (record { kept = before }) line n → Outcome (header ∷ (before ++ (line ∷ others))) (refusalLine n (2 + length before))
+      FeedingAnswer (termsOf (opened header)) (record { kept = before }) line n →
+      Outcome (header ∷ (before ++ (line ∷ others))) (refusalLine n (2 + length before))
   -- All lines are taken and too few of them are loans, or loans without a score: (refused 6 L), L the number after the last line.
   too-few : (header : List ℕ) (lines : List (List ℕ)) → AllTaken header lines →
       ((countsIn lines .loans < termsOf (opened header) .header .loans) ⊎ (countsIn lines .unscored < termsOf (opened header) .header .unscored)) →

@@ -116,7 +116,8 @@ struct LinesRead {
 
 // Every line that ends in the bytes is read. Here alone a line is fed, so that the book is copied once and not at every call.
 fn lines(before: Progress, exps: &Exponentials, rates: &Rates, bytes: &[u8]) -> LinesRead
-    requires { ⌜ Sound (stateAt (before .book) (now rates)) × (before .number + length (now bytes) < 2 ^ 63) × (now exps ≡ exponentials) × (now rates ≡ builtInRates) ⌝ }
+    requires { ⌜ Sound (stateAt (before .book) (now rates)) × (before .number + length (now bytes) < 2 ^ 63) × (now exps ≡ exponentials)
+        × (now rates ≡ builtInRates) ⌝ }
     ensures equation { λ r.
         ⌜ record { stage = stageAt (r .progress) (now (rates .entry)); tail = [] } ≡
         withBytes (record { stage = stageAt before (now (rates .entry)); tail = [] }) (take (r .rest) (now (bytes .entry))) ⌝ }
@@ -180,7 +181,8 @@ fn end_held(
     exps: &Exponentials,
     rates: &Rates,
 ) -> Progress
-    requires { ⌜ Sound (stateAt (p .book) (now rates)) × (p .number + 242 < 2 ^ 63) × (now exps ≡ exponentials) × (now rates ≡ builtInRates) × (held ≤ mostHeld) × (length (now tail) ≡ 242) × (unbroken (take held (now tail)) ≡ true) ⌝ }
+    requires { ⌜ Sound (stateAt (p .book) (now rates)) × (p .number + 242 < 2 ^ 63) × (now exps ≡ exponentials) × (now rates ≡ builtInRates) × (held ≤ mostHeld)
+        × (length (now tail) ≡ 242) × (unbroken (take held (now tail)) ≡ true) ⌝ }
     ensures equation { λ r. ⌜ stageAt r (now (rates .entry)) ≡ withLine (stageAt p (now (rates .entry))) (take held (now (tail .entry))) ⌝ }
     ensures sound { λ r. ⌜ Sound (stateAt (r .book) (now (rates .entry))) ⌝ }
     ensures number { λ r. ⌜ r .number ≤ p .number + 1 ⌝ }
@@ -200,8 +202,11 @@ fn read_lines(
     bytes: &[u8],
     read: usize,
 ) -> Run
-    requires { ⌜ Sound (stateAt (p .book) (now rates)) × (p .number + length (now bytes) ≤ 1 + read) × (read ≤ 2 ^ 62) × (now exps ≡ exponentials) × (now rates ≡ builtInRates) × (length before ≡ 242) ⌝ }
-    ensures equation { λ r. ⌜ readingOf r (now (rates .entry)) ≡ withBytes (record { stage = stageAt p (now (rates .entry)); tail = [] }) (now (bytes .entry)) ⌝ }
+    requires { ⌜ Sound (stateAt (p .book) (now rates)) × (p .number + length (now bytes) ≤ 1 + read) × (read ≤ 2 ^ 62) × (now exps ≡ exponentials)
+        × (now rates ≡ builtInRates) × (length before ≡ 242) ⌝ }
+    ensures equation { λ r.
+        ⌜ readingOf r (now (rates .entry)) ≡
+        withBytes (record { stage = stageAt p (now (rates .entry)); tail = [] }) (now (bytes .entry)) ⌝ }
     ensures running { λ r. ⌜ Running r (now (rates .entry)) ⌝ }
     ensures read { λ r. ⌜ r .read ≡ read ⌝ }
 {

@@ -87,7 +87,8 @@ leading-nonzero zero n t h p = absurd (omega arith)
 leading-nonzero (suc k) zero t h p = absurd (omega arith)
 leading-nonzero (suc k) (suc m) t h p = rw append-assoc (first (suc m / 10) refl (leading-nonzero k (suc m / 10) (digit (suc m % 10) ∷ t) (omega arith)))
   where
-    first : (q : ℕ) → suc m / 10 ≡ q → (0 < suc m / 10 → 48 < getD (leading k (suc m / 10) ++ (digit (suc m % 10) ∷ t)) 0 0) → 48 < getD (leading k (suc m / 10) ++ (digit (suc m % 10) ∷ t)) 0 0
+    first : (q : ℕ) → suc m / 10 ≡ q → (0 < suc m / 10 → 48 < getD (leading k (suc m / 10) ++ (digit (suc m % 10) ∷ t)) 0 0) →
+        48 < getD (leading k (suc m / 10) ++ (digit (suc m % 10) ∷ t)) 0 0
     first zero e f = rw (e, leading-zero k) (omega arith)
     first (suc q) e f = f (omega arith)
 

@@ -24,7 +24,8 @@ step x d f h =
     in λ i. record { quotient = e .0 i; remainder = e .1 i }
 
 -- A division a of x by d, at most k times d: what the next step, ten times finer, asks and gives.
-pub step-asks : (x d k : ℕ) (a : Division) → a ≡ divided x d → 0 < d → d < 2 ^ 59 → x < k * d → k < 2 ^ 58 → (a .remainder < d) × (d * 10 < 2 ^ 64) × (a .quotient * 10 < 2 ^ 62) × (10 < 2 ^ 62)
+pub step-asks : (x d k : ℕ) (a : Division) → a ≡ divided x d → 0 < d → d < 2 ^ 59 → x < k * d → k < 2 ^ 58 → (a .remainder < d) × (d * 10 < 2 ^ 64)
+    × (a .quotient * 10 < 2 ^ 62) × (10 < 2 ^ 62)
 step-asks x d k a e pos small low fits =
     let quotient : a .quotient ≡ x / d = ap (λ (t : Division). t .quotient) e in
     let remainder : a .remainder ≡ x % d = ap (λ (t : Division). t .remainder) e in

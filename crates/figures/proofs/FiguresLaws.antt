@@ -12,7 +12,8 @@ use Rattle.figures.specs.declared.Sums.{Sums}
 use Rattle.figures.specs.declared.Ratio.the-variants.{Number, None}
 use Rattle.figures.specs.Sums.{Bounded, InLimits}
 use Rattle.exact.specs.Choice.{pick}
-use Rattle.figures.specs.Figures.{difference, requiredOf, positiveEquity, admitted, capitalOf, ratioSize, ratioOf, figuresOf, Within, RatioBounds, FigureBounds}
+use Rattle.figures.specs.Figures.{difference, requiredOf, positiveEquity, admitted, capitalOf, ratioSize, ratioOf, figuresOf, Within, RatioBounds}
+use Rattle.figures.specs.Figures.{FigureBounds}
 
 -- what is admitted of b and c is no more than both
 pub admitted-le : (e b c : ℕ) → admitted e b c ≤ b + c
@@ -46,14 +47,24 @@ ratio-bounded capital required = go (eqb required 0) refl
     one-side pos =
         elim (decLe (capital .plus) (capital .minus)) [
           | yes h ↦ omega (arith, ap (λ (t : ℕ). ratioSize false t required) (sub-eq-zero-of-le h), size-zero false required pos)
-          | no h ↦ omega (arith, ap (λ (t : ℕ). ratioSize true t required) (sub-eq-zero-of-le {n = capital .minus} {m = capital .plus} (omega arith)), size-zero true required pos)
+          | no h ↦ omega (
+            arith,
+            ap (λ (t : ℕ). ratioSize true t required) (sub-eq-zero-of-le {n = capital .minus} {m = capital .plus} (omega arith)),
+            size-zero true required pos,
+          )
         ]
 
     go : (t : Bool) → eqb required 0 ≡ t → RatioBounds (pick t None (Number (record { plus = above; minus = below })))
     go true e = tt
-    go false e = record { above = size-le false (capital .plus - capital .minus) required; below = size-le true (capital .minus - capital .plus) required; one-side = one-side (omega (arith, eqb-false required 0 e)) }
+    go false e = record {
+      above = size-le false (capital .plus - capital .minus) required;
+      below =
+          size-le true (capital .minus - capital .plus) required;
+      one-side = one-side (omega (arith, eqb-false required 0 e));
+    }
 
-pub capital-within : (equity aoci : Signed) (b c p m : ℕ) → equity .plus + aoci .plus + (b + c) ≤ p → equity .minus + aoci .minus ≤ m → Within p m (capitalOf equity aoci b c)
+pub capital-within : (equity aoci : Signed) (b c p m : ℕ) → equity .plus + aoci .plus + (b + c) ≤ p → equity .minus + aoci .minus ≤ m →
+    Within p m (capitalOf equity aoci b c)
 unfolding capitalOf
 capital-within equity aoci b c p m h k = difference-within p m _ _ (omega (arith, admitted-le (positiveEquity equity) b c)) k
 

@@ -62,7 +62,8 @@ rounded true x d = (x + (d - 1)) / d
 unfoldable pub ratioSize : Bool → ℕ → ℕ → ℕ
 ratioSize negative n required = min 10000000 (rounded negative (n * 15000) required)
 
--- ratio (002, 2.1: capital over the required amount divided by 1.5): capital × 15,000 / required, in hundredths of a per cent, rounded down toward minus infinity, held within ±10,000,000; none when required is 0
+-- ratio (002, 1.1.1: the required amount is divided by 1.5): capital × 15,000 / required, in hundredths of a per cent, rounded down toward
+-- minus infinity, held within ±10,000,000; none when required is 0
 unfoldable pub ratioOf : Signed → ℕ → Ratio
 ratioOf capital required =
     pick (eqb required 0) None

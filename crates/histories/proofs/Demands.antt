@@ -67,7 +67,8 @@ closes {h} g = rw (given g) (closes-of (termsOf h) (acceptedOf h))
 sound : {h : History} {s : State} → Given h s → Sound s
 sound (by-opening line r c e) = subst (λ (a : Answer). Sound (a .state)) (sym (opening-answer c)) (demand1 .opening-sound line)
 sound (by-feeding {h} {s} g line r c) =
-    subst (λ (x : State). Sound x) (sym (ap (λ (f : Fed). stateAt (f .book) (s .rates)) (fed-by c) ∙ sym (fed-state s line))) (demand1 .feeding-sound s line (sound g))
+    subst (λ (x : State). Sound x) (sym (ap (λ (f : Fed). stateAt (f .book) (s .rates)) (fed-by c) ∙ sym (fed-state s line)))
+    (demand1 .feeding-sound s line (sound g))
 
 pub calls-demand1 : CallsDemand1
 calls-demand1 = record {
@@ -96,7 +97,8 @@ pub calls-demand2 : CallsDemand2
 calls-demand2 = record {
   openings = λ {line} {r} c. rw (opening-answer c) (openings line);
   feedings = λ {h} {s} g {line} {r} c. rw (fed-number g c ∙ closes g .answers line) (feeding-answer (termsOf h) (acceptedOf h) line);
-  closings = λ {h} {s} g {buffer} {after} {r} c. rw (closed-number c ∙ closes g .refusal (length buffer)) (closing-answer (termsOf h) (acceptedOf h) (length buffer));
+  closings = λ {h} {s} g {buffer} {after} {r} c. rw (closed-number c
+      ∙ closes g .refusal (length buffer)) (closing-answer (termsOf h) (acceptedOf h) (length buffer));
 }
 
 pub calls-demand3 : CallsDemand3

@@ -34,7 +34,8 @@ pub record CallsDemand1 : Type 0 where
 -- Demand 2: each number when and only when its condition holds, by the lines taken.
 pub record CallsDemand2 : Type 0 where
   pub openings : {line : List ℕ} {r : Opened} → OpenCall line r → OpeningAnswer line (record { refusal = r .refusal; state = stateAt (r .book) builtInRates })
-  pub feedings : {h : History} {s : State} → Given h s → {line : List ℕ} {r : Fed} → FeedingCall s line r → FeedingAnswer (termsOf h) (acceptedOf h) line (r .refusal)
+  pub feedings : {h : History} {s : State} → Given h s → {line : List ℕ} {r : Fed} → FeedingCall s line r →
+      FeedingAnswer (termsOf h) (acceptedOf h) line (r .refusal)
   pub closings : {h : History} {s : State} → Given h s → {buffer after : List ℕ} {r : Closed} → CloseCall (s .book) buffer r after →
       ClosingAnswer 512 (termsOf h) (acceptedOf h) (length buffer) (r .refusal)
 

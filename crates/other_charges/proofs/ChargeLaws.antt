@@ -13,7 +13,8 @@ use Rattle.exact.specs.Fraction.{Fraction, Proper, quotient, _≈_}
 use Rattle.exact.proofs.Fractions
 use Rattle.line_forms.specs.declared.Kind.{Kind}
 use Rattle.line_forms.specs.declared.Kind.the-variants.{Rate, Float, Fx, Equity, Metal, Other}
-use Rattle.other_charges.specs.Charges.{assetCharge, shareCharge, derivativeCharge, addOnThousandths, provisionTenths, provision, multiProvision, upTo5Years, upTo10Years, upTo15Years, over15Years}
+use Rattle.other_charges.specs.Charges.{assetCharge, shareCharge, derivativeCharge, addOnThousandths, provisionTenths, provision, multiProvision}
+use Rattle.other_charges.specs.Charges.{upTo5Years, upTo10Years, upTo15Years, over15Years}
 use Rattle.other_charges.specs.Parts.{assetParts, shareParts, derivativeParts, provisionParts}
 
 -- Bounds
@@ -52,7 +53,8 @@ unfolding provisionTenths largest
 tenths-bounded term done =
     chosen-list (leb term 60) upTo5Years _ done 60 (le-trans (element-bounded upTo5Years done) (lit≤ tt))
     (chosen-list (leb term 120) upTo10Years _ done 60 (le-trans (element-bounded upTo10Years done) (lit≤ tt))
-    (chosen-list (leb term 180) upTo15Years over15Years done 60 (le-trans (element-bounded upTo15Years done) (lit≤ tt)) (le-trans (element-bounded over15Years done) (lit≤ tt))))
+    (chosen-list (leb term 180) upTo15Years over15Years done 60 (le-trans (element-bounded upTo15Years done) (lit≤ tt))
+    (le-trans (element-bounded over15Years done) (lit≤ tt))))
 
 -- The charges in ten-millionths
 
@@ -81,7 +83,9 @@ unfolding multiProvision provision
 multi-provision-is premium term done = record { proper = positive (omega arith); same = record { crossed = omega arith } }
 
 -- the cost is plus - minus, of which the positive part counts
-pub derivative-is : (kind : Kind) (plus minus notional months pays factor : ℕ) → InParts (derivativeCharge kind (record { plus = plus; minus = minus; over = 1 }) notional months pays factor) (derivativeParts kind (plus - minus) notional months pays factor)
+pub derivative-is : (kind : Kind) (plus minus notional months pays factor : ℕ) →
+    InParts (derivativeCharge kind (record { plus = plus; minus = minus; over = 1 }) notional months pays factor)
+    (derivativeParts kind (plus - minus) notional months pays factor)
 unfolding derivativeCharge
 derivative-is kind plus minus notional months pays factor =
     let e : max (plus * 1 + 0) (0 + minus * 1) ≡ plus - minus + minus = omega arith in

@@ -34,6 +34,7 @@ signed-length k v p q = go (sign v)
     go (inr h) = rw (signed-positive v h) (omega (arith, digits-length k (v .plus - v .minus) (omega arith)))
 
 pub examples :
-    (digits 0 ≡ text "0") × (digits 1075 ≡ text "1075") × (signed (record { plus = 7; minus = 1207 }) ≡ text "-1200") × (signed (record { plus = 5; minus = 5 }) ≡ text "0")
+    (digits 0 ≡ text "0") × (digits 1075 ≡ text "1075") × (signed (record { plus = 7; minus = 1207 }) ≡ text "-1200")
+    × (signed (record { plus = 5; minus = 5 }) ≡ text "0")
 unfolding leading digits signed
 examples = (refl, refl, refl, refl)

@@ -13,14 +13,21 @@ use Rattle.report.specs.Line.{onto, Written, Added}
 pub onto-byte : (old t : List ℕ) (b : ℕ) → length t < length old → set (onto old t) (length t) b ≡ onto old (t ++ (b ∷ []))
 unfolding onto
 onto-byte old t b h =
-    rw (drop-cons old (length t) 0, set-at t (getD old (length t) 0) (drop (suc (length t)) old) b (length t) refl, length-append t (b ∷ []), add-one, append-assoc)
+    rw (
+      drop-cons old (length t) 0,
+      set-at t (getD old (length t) 0) (drop (suc (length t)) old) b (length t) refl,
+      length-append t (b ∷ []),
+      add-one,
+      append-assoc,
+    )
     refl
 
 -- the next byte of s
 pub onto-next : (old s : List ℕ) (i : ℕ) → i < length s → length s ≤ length old → set (onto old (take i s)) i (getD s i 0) ≡ onto old (take (i + 1) s)
 onto-next old s i h k =
     let n : length (take i s) ≡ i = length-take-le i s (omega arith) in
-    let e : set (onto old (take i s)) (length (take i s)) (getD s i 0) ≡ onto old (take i s ++ (getD s i 0 ∷ [])) = onto-byte old (take i s) (getD s i 0) (omega arith) in
+    let e : set (onto old (take i s)) (length (take i s)) (getD s i 0) ≡ onto old (take i s ++ (getD s i 0 ∷ [])) =
+    onto-byte old (take i s) (getD s i 0) (omega arith) in
     rw (add-one, take-suc s i 0) (ap (λ (j : ℕ). set (onto old (take i s)) j (getD s i 0)) (sym n) ∙ e)
 
 -- one more byte after those written

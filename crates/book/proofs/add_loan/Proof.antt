@@ -19,7 +19,8 @@ with-share-requires c κs =
 returns-2 : tie.Need-returns-2
 returns-2 c =
     let a = c .before .before .before .before .before .before .args in
-    loan-taken (stateAt (a .b) (now (a .rates))) (a .l) (c .before .before .before .loan-beyond .ensures) (c .before .before .if1 .left) (c .before .loan .ensures) (c .with-share .ensures)
+    loan-taken (stateAt (a .b) (now (a .rates))) (a .l) (c .before .before .before .loan-beyond .ensures) (c .before .before .if1 .left)
+    (c .before .loan .ensures) (c .with-share .ensures)
 
 pub add-loan-spec : {M : Type 1} → statement M
 add-loan-spec =

@@ -15,7 +15,8 @@ returns c =
 with-share-requires : tie.Need-with-share-requires
 with-share-requires c κs =
     let b = c .before .before .before .args .b in
-    other-asks b (c .before .before .before .args .share) (c .before .before .before .pre .0) (c .before .before .before .pre .1) (c .before .before .before .pre .2)
+    other-asks b (c .before .before .before .args .share) (c .before .before .before .pre .0) (c .before .before .before .pre .1)
+    (c .before .before .before .pre .2)
     (rw (lt-leb mostOther (b .sums .counts .other) (c .if1 .left)) refl)
 
 returns-2 : tie.Need-returns-2

@@ -14,16 +14,22 @@ use Rattle.book.proofs.feed_line.Statement.{statement}
 use Rattle.book.proofs.feed_line.Tie as tie
 
 add-loan-requires : tie.Need-add-loan-requires
-add-loan-requires c κs =
-    (c .before .before .before .pre .0, subst (λ (l : Line). Ranged (lineContent l)) (c .before .line .given .1) (c .before .before .before .pre .1), c .before .before .before .pre .2)
+add-loan-requires c κs = (
+  c .before .before .before .pre .0,
+  subst (λ (l : Line). Ranged (lineContent l)) (c .before .line .given .1) (c .before .before .before .pre .1),
+  c .before .before .before .pre .2,
+)
 
 policy-requires : tie.Need-policy-requires
-policy-requires c κs = let r : PolicyRanges (c .before .line2 .given .0 .0) = subst (λ (l : Line). Ranged (lineContent l)) (c .before .line2 .given .1) (c .before .before .before .pre .1) in r .premium
+policy-requires c κs = let r : PolicyRanges (c .before .line2 .given .0 .0) =
+    subst (λ (l : Line). Ranged (lineContent l)) (c .before .line2 .given .1) (c .before .before .before .pre .1) in r .premium
 
 add-other-requires : tie.Need-add-other-requires
 unfolding share contentKind
 add-other-requires c κs =
-    other-asked (stateAt (c .before .before .before .before .args .b) (now (c .before .before .before .before .args .rates))) (PolicyLine (c .before .before .line2 .given .0 .0)) refl (c .before .before .line2 .given .1) (c .policy .ensures) (c .before .before .before .before .pre .0) (c .before .before .before .before .pre .1)
+    other-asked (stateAt (c .before .before .before .before .args .b) (now (c .before .before .before .before .args .rates)))
+    (PolicyLine (c .before .before .line2 .given .0 .0)) refl (c .before .before .line2 .given .1) (c .policy .ensures)
+    (c .before .before .before .before .pre .0) (c .before .before .before .before .pre .1)
 
 derivative-requires : tie.Need-derivative-requires
 derivative-requires c κs = subst (λ (l : Line). Ranged (lineContent l)) (c .before .line3 .given .1) (c .before .before .before .pre .1)
@@ -31,7 +37,9 @@ derivative-requires c κs = subst (λ (l : Line). Ranged (lineContent l)) (c .be
 add-other-requires-2 : tie.Need-add-other-requires-2
 unfolding share contentKind
 add-other-requires-2 c κs =
-    other-asked (stateAt (c .before .before .before .before .args .b) (now (c .before .before .before .before .args .rates))) (DerivativeLine (c .before .before .line3 .given .0 .0)) refl (c .before .before .line3 .given .1) (c .derivative .ensures) (c .before .before .before .before .pre .0) (c .before .before .before .before .pre .1)
+    other-asked (stateAt (c .before .before .before .before .args .b) (now (c .before .before .before .before .args .rates)))
+    (DerivativeLine (c .before .before .line3 .given .0 .0)) refl (c .before .before .line3 .given .1) (c .derivative .ensures)
+    (c .before .before .before .before .pre .0) (c .before .before .before .before .pre .1)
 
 asset-requires : tie.Need-asset-requires
 asset-requires c κs = subst (λ (l : Line). Ranged (lineContent l)) (c .before .line4 .given .1) (c .before .before .before .pre .1)
@@ -39,42 +47,57 @@ asset-requires c κs = subst (λ (l : Line). Ranged (lineContent l)) (c .before 
 add-other-requires-3 : tie.Need-add-other-requires-3
 unfolding share contentKind
 add-other-requires-3 c κs =
-    other-asked (stateAt (c .before .before .before .before .args .b) (now (c .before .before .before .before .args .rates))) (AssetLine (c .before .before .line4 .given .0 .0)) refl (c .before .before .line4 .given .1) (c .asset .ensures) (c .before .before .before .before .pre .0) (c .before .before .before .before .pre .1)
+    other-asked (stateAt (c .before .before .before .before .args .b) (now (c .before .before .before .before .args .rates)))
+    (AssetLine (c .before .before .line4 .given .0 .0)) refl (c .before .before .line4 .given .1) (c .asset .ensures)
+    (c .before .before .before .before .pre .0) (c .before .before .before .before .pre .1)
 
 amount-requires : tie.Need-amount-requires
-amount-requires c κs = let r : AmountRanges (c .before .before .line5 .given .0 .0) = subst (λ (l : Line). Ranged (lineContent l)) (c .before .before .line5 .given .1) (c .before .before .before .before .pre .1) in r .plus
+amount-requires c κs = let r : AmountRanges (c .before .before .line5 .given .0 .0) =
+    subst (λ (l : Line). Ranged (lineContent l)) (c .before .before .line5 .given .1) (c .before .before .before .before .pre .1) in r .plus
 
 add-other-requires-4 : tie.Need-add-other-requires-4
 unfolding share contentKind
 add-other-requires-4 c κs =
-    other-asked (stateAt (c .before .before .before .before .before .args .b) (now (c .before .before .before .before .before .args .rates))) (AmountLine (c .before .before .before .line5 .given .0 .0)) refl (c .before .before .before .line5 .given .1) (c .amount .ensures) (c .before .before .before .before .before .pre .0) (c .before .before .before .before .before .pre .1)
+    other-asked (stateAt (c .before .before .before .before .before .args .b) (now (c .before .before .before .before .before .args .rates)))
+    (AmountLine (c .before .before .before .line5 .given .0 .0)) refl (c .before .before .before .line5 .given .1) (c .amount .ensures)
+    (c .before .before .before .before .before .pre .0) (c .before .before .before .before .before .pre .1)
 
 returns : tie.Need-returns
 returns c =
-    loan-fed (stateAt (c .before .before .before .before .args .b) (now (c .before .before .before .before .args .rates))) (c .before .before .line .given .0 .0) (c .before .before .line .given .1) (c .add-loan .ensures)
+    loan-fed (stateAt (c .before .before .before .before .args .b) (now (c .before .before .before .before .args .rates)))
+    (c .before .before .line .given .0 .0) (c .before .before .line .given .1) (c .add-loan .ensures)
 
 returns-2 : tie.Need-returns-2
 unfolding share contentKind
 returns-2 c =
-    other-fed (stateAt (c .before .before .before .before .before .args .b) (now (c .before .before .before .before .before .args .rates))) (PolicyLine (c .before .before .before .line2 .given .0 .0)) refl (c .before .before .before .line2 .given .1) (c .before .policy .ensures) (c .add-other .ensures)
+    other-fed (stateAt (c .before .before .before .before .before .args .b) (now (c .before .before .before .before .before .args .rates)))
+    (PolicyLine (c .before .before .before .line2 .given .0 .0)) refl (c .before .before .before .line2 .given .1) (c .before .policy .ensures)
+    (c .add-other .ensures)
 
 returns-3 : tie.Need-returns-3
 unfolding share contentKind
 returns-3 c =
-    other-fed (stateAt (c .before .before .before .before .before .args .b) (now (c .before .before .before .before .before .args .rates))) (DerivativeLine (c .before .before .before .line3 .given .0 .0)) refl (c .before .before .before .line3 .given .1) (c .before .derivative .ensures) (c .add-other2 .ensures)
+    other-fed (stateAt (c .before .before .before .before .before .args .b) (now (c .before .before .before .before .before .args .rates)))
+    (DerivativeLine (c .before .before .before .line3 .given .0 .0)) refl (c .before .before .before .line3 .given .1) (c .before .derivative .ensures)
+    (c .add-other2 .ensures)
 
 returns-4 : tie.Need-returns-4
 unfolding share contentKind
 returns-4 c =
-    other-fed (stateAt (c .before .before .before .before .before .args .b) (now (c .before .before .before .before .before .args .rates))) (AssetLine (c .before .before .before .line4 .given .0 .0)) refl (c .before .before .before .line4 .given .1) (c .before .asset .ensures) (c .add-other3 .ensures)
+    other-fed (stateAt (c .before .before .before .before .before .args .b) (now (c .before .before .before .before .before .args .rates)))
+    (AssetLine (c .before .before .before .line4 .given .0 .0)) refl (c .before .before .before .line4 .given .1) (c .before .asset .ensures)
+    (c .add-other3 .ensures)
 
 returns-5 : tie.Need-returns-5
 unfolding share contentKind
 returns-5 c =
-    other-fed (stateAt (c .before .before .before .before .before .before .args .b) (now (c .before .before .before .before .before .before .args .rates))) (AmountLine (c .before .before .before .before .line5 .given .0 .0)) refl (c .before .before .before .before .line5 .given .1) (c .before .amount .ensures) (c .add-other4 .ensures)
+    other-fed (stateAt (c .before .before .before .before .before .before .args .b) (now (c .before .before .before .before .before .before .args .rates)))
+    (AmountLine (c .before .before .before .before .line5 .given .0 .0)) refl (c .before .before .before .before .line5 .given .1)
+    (c .before .amount .ensures) (c .add-other4 .ensures)
 
 returns-6 : tie.Need-returns-6
-returns-6 c = rw (c .before .line6 .given .1) (fed-refused (stateAt (c .before .before .before .args .b) (now (c .before .before .before .args .rates))) (c .before .line6 .given .0 .0))
+returns-6 c = rw (c .before .line6 .given .1) (fed-refused (stateAt (c .before .before .before .args .b) (now (c .before .before .before .args .rates)))
+    (c .before .line6 .given .0 .0))
 
 pub feed-line-spec : {M : Type 1} → statement M
 feed-line-spec =

@@ -14,8 +14,15 @@ put-line-requires c κs = omega (arith, value-line-length (text "ratio") (c .bef
 returns : tie.Need-returns
 unfolding ratioLine
 returns c =
-    let e : c .before .before .before .before .before .before .before .before .before .args .ratio ≡ Number (c .before .before .before .before .before .before .ratio .given .0 .0) = cc in
-    (rw e (c .before .before .put-line .ensures), omega (arith, c .before .before .put-line .ensures .count, value-line-length (text "ratio") (c .before .before .before .before .before .before .ratio .given .0 .0) (omega arith) (omega arith)))
+    let e : c .before .before .before .before .before .before .before .before .before .args .ratio ≡ Number
+    (c .before .before .before .before .before .before .ratio .given .0 .0) = cc in (
+      rw e (c .before .before .put-line .ensures),
+      omega (
+        arith,
+        c .before .before .put-line .ensures .count,
+        value-line-length (text "ratio") (c .before .before .before .before .before .before .ratio .given .0 .0) (omega arith) (omega arith),
+      ),
+    )
 
 returns-2 : tie.Need-returns-2
 unfolding ratioLine

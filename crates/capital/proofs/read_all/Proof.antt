@@ -16,7 +16,8 @@ use Rattle.capital.proofs.read_all.Tie as tie
 
 abbrev Inv-loop : tie.InvT-loop
 Inv-loop exps rates buf₀ run₀ turns₀ buf run turns =
-    Running run rates × Reached (readingOf run rates) (run .read) × (run .read + 65536 * turns ≤ 2 ^ 60) × (exps ≡ exponentials) × (rates ≡ builtInRates) × (length buf ≡ 65536)
+    Running run rates × Reached (readingOf run rates) (run .read) × (run .read + 65536 * turns ≤ 2 ^ 60) × (exps ≡ exponentials) × (rates ≡ builtInRates)
+    × (length buf ≡ 65536)
 
 abbrev μ-loop : tie.MeasureT-loop
 μ-loop exps rates buf₀ run₀ turns₀ buf run turns = turns
@@ -25,8 +26,14 @@ loop-holds : tie.Need-loop-holds Inv-loop μ-loop
 loop-holds c =
     let a = c .before .before .args in
     let e = c .before .before .pre .1 in
-    let k = c .start .ensures in
-    (rw e (k .1 .0), rw e (reached-none (readingOf (c .start .result) builtInRates) (c .start .result .read) (k .0) (k .1 .1)), omega (arith, k .1 .1), c .before .before .pre .0, e, search needs)
+    let k = c .start .ensures in (
+      rw e (k .1 .0),
+      rw e (reached-none (readingOf (c .start .result) builtInRates) (c .start .result .read) (k .0) (k .1 .1)),
+      omega (arith, k .1 .1),
+      c .before .before .pre .0,
+      e,
+      search needs,
+    )
 
 read-once-requires : tie.Need-read-once-requires Inv-loop μ-loop
 read-once-requires c κs =
@@ -36,8 +43,10 @@ read-once-requires c κs =
 returns : tie.Need-returns Inv-loop μ-loop
 returns c =
     let l = c .before .before .before .before .before .before .before .loop in
-    let r = c .before .before .before .before .read-once in
-    (rw (r .ensures .1 .0 .1) (reached-on (l .inv .1) (r .ensures .0)), ((r .ensures .1 .0 .0, omega (arith, r .ensures .1 .0 .1, r .ensures .0 .count, l .inv .2)), ends-now (r .ensures .1 .1) (search needs)))
+    let r = c .before .before .before .before .read-once in (
+      rw (r .ensures .1 .0 .1) (reached-on (l .inv .1) (r .ensures .0)),
+      ((r .ensures .1 .0 .0, omega (arith, r .ensures .1 .0 .1, r .ensures .0 .count, l .inv .2)), ends-now (r .ensures .1 .1) (search needs)),
+    )
 
 loop-again : tie.Need-loop-again Inv-loop μ-loop
 loop-again c =

@@ -26,9 +26,12 @@ returns-2 c =
     let k = c .before .before .before .before .before .before .count in
     let running = r .ensures .1 .0 in
     let few : k .result - 0 ≡ k .result = omega arith in
-    let size : length (take (k .result - 0) buffer) ≡ k .result = ap (λ (n : ℕ). length (take n buffer)) few ∙ length-take-le (k .result) buffer (search needs) in
-    let held : length (take (r .result .held) (r .result .tail)) ≡ r .result .held = length-take-le (r .result .held) (r .result .tail) (omega (arith, running .held, running .room)) in (
-      read-some (readingOf (start .args .run) (now (start .args .rates))) (readingOf (r .result) (now (start .args .rates))) (k .result) buffer (search needs) (r .ensures .0),
+    let size : length (take (k .result - 0) buffer) ≡ k .result = ap (λ (n : ℕ). length (take n buffer)) few
+    ∙ length-take-le (k .result) buffer (search needs) in
+    let held : length (take (r .result .held) (r .result .tail)) ≡ r .result .held =
+    length-take-le (r .result .held) (r .result .tail) (omega (arith, running .held, running .room)) in (
+      read-some (readingOf (start .args .run) (now (start .args .rates))) (readingOf (r .result) (now (start .args .rates))) (k .result) buffer (search needs)
+          (r .ensures .0),
       (
         (running, r .ensures .1 .1 ∙ ap (λ (n : ℕ). start .args .run .read + n) size),
         ends-settled (readingOf (r .result) (now (start .args .rates))) (k .result) (r .result .held) held,

@@ -14,7 +14,8 @@ returns c =
     let a = c .before .before .before .before .before .args in
     let p = c .before .before .before .before .before .pre in
     let l = c .before .lines in
-    held-ended (a .p) (a .rates .now) (a .tail .now) (a .held) (l .result .rest) (l .result .progress) (p .4) (p .5) (p .6) (p .0) (l .ensures .0) (l .ensures .1 .0 .0) (l .ensures .1 .0 .1)
+    held-ended (a .p) (a .rates .now) (a .tail .now) (a .held) (l .result .rest) (l .result .progress) (p .4) (p .5) (p .6) (p .0) (l .ensures .0)
+    (l .ensures .1 .0 .0) (l .ensures .1 .0 .1)
 
 pub end-held-spec : {M : Type 1} → statement M
 end-held-spec =

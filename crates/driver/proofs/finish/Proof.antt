@@ -36,7 +36,8 @@ returns-2 c =
     let start = c .before .before .before .before .before .before .before .before .before .before .before in
     let a = start .args in
     let line = take (a .run .held) (a .run .tail) in
-    let n : length (take (a .run .held) (a .run .tail)) ≡ a .run .held = length-take-le (a .run .held) (a .run .tail) (omega (arith, start .pre .0 .held, start .pre .0 .room)) in
+    let n : length (take (a .run .held) (a .run .tail)) ≡ a .run .held =
+    length-take-le (a .run .held) (a .run .tail) (omega (arith, start .pre .0 .held, start .pre .0 .room)) in
     let e = c .before .before .before .before .before .end-held .ensures .0 in
     prints (readingOf (a .run) (now (a .rates)))
     (rw (ended-line (stageAt (a .run .progress) (now (a .rates))) line (omega arith), ← e, start .pre .3) (c .before .before .put-answer2 .ensures))

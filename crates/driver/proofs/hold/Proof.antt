@@ -28,7 +28,8 @@ loop-again : tie.Need-loop-again Inv-loop μ-loop
 loop-again c =
     let a = c .before .before .before .before .before .before .before .before .before .args in
     let l = c .before .before .before .before .before .before .loop in (
-      c .before .before .keep .ensures .0 ∙ ap (λ (t : List ℕ). withTail t (getD (a .bytes .now) (l .i) 0 ∷ [])) (l .inv .0) ∙ tail-next (take (a .held) (a .tail .now)) (a .bytes .now) (l .i) (omega arith),
+      c .before .before .keep .ensures .0 ∙ ap (λ (t : List ℕ). withTail t (getD (a .bytes .now) (l .i) 0 ∷ [])) (l .inv .0)
+          ∙ tail-next (take (a .held) (a .tail .now)) (a .bytes .now) (l .i) (omega arith),
       c .before .before .keep .ensures .1,
       search needs,
       omega arith,

@@ -33,8 +33,18 @@ returns : tie.Need-returns Inv-loop μ-loop
 returns c =
     let l = c .before .before .before .loop in
     let bytes = c .before .before .before .before .before .args .bytes .now in
-    let n : length (drop (l .i) (c .before .before .before .before .before .args .bytes .now)) ≡ length (c .before .before .before .before .before .args .bytes .now) - l .i = length-drop (l .i) bytes in
-    (l .inv .0, ((l .inv .3, none-found (drop (l .i) bytes) (c .before .line-end .result - l .i) (omega (arith, c .before .line-end .ensures .0)) (omega (arith, c .if1 .taken))), (l .inv .1, l .inv .2)))
+    let n : length (drop (l .i) (c .before .before .before .before .before .args .bytes .now)) ≡ length
+    (c .before .before .before .before .before .args .bytes .now) - l .i = length-drop (l .i) bytes in (
+      l .inv .0,
+      (
+        (
+          l .inv .3,
+          none-found (drop (l .i) bytes) (c .before .line-end .result - l .i) (omega (arith, c .before .line-end .ensures .0))
+              (omega (arith, c .if1 .taken)),
+        ),
+        (l .inv .1, l .inv .2),
+      ),
+    )
 
 sub-end-line : tie.Need-sub-end-line Inv-loop μ-loop
 sub-end-line c = search needs
@@ -62,7 +72,8 @@ loop-again c =
     let l = c .before .before .before .before .before .loop in
     let e = c .before .before .before .line-end in (
       (λ j. record { stage = c .end-line .ensures .0 j; tail = [] })
-          ∙ sym (line-read (record { stage = stageAt (a .before) (a .rates .now); tail = [] }) (a .bytes .now) (stageAt (l .p) (a .rates .now)) (l .i) (e .result) (l .inv .0) (omega arith) (e .ensures .0) (omega arith)),
+          ∙ sym (line-read (record { stage = stageAt (a .before) (a .rates .now); tail = [] }) (a .bytes .now) (stageAt (l .p) (a .rates .now)) (l .i)
+          (e .result) (l .inv .0) (omega arith) (e .ensures .0) (omega arith)),
       c .end-line .ensures .1 .0,
       omega (arith, c .end-line .ensures .1 .1, l .inv .2, e .ensures .1),
       omega arith,
@@ -81,4 +92,5 @@ returns-2 c =
 pub lines-spec : {M : Type 1} → statement M
 lines-spec =
     tie.close
-    (tie.spec Inv-loop μ-loop loop-holds line-end-requires returns sub-end-line part-end-line-start part-end-line-end end-line-requires add-i loop-less loop-again returns-2)
+    (tie.spec Inv-loop μ-loop loop-holds line-end-requires returns sub-end-line part-end-line-start part-end-line-end end-line-requires add-i loop-less
+    loop-again returns-2)

@@ -18,27 +18,32 @@ put-refusal-requires c κs =
 
 returns : tie.Need-returns
 returns c =
-    rw (printed-refused (stageAt (c .before .before .before .before .before .before .args .p) builtInRates) (c .before .before .before .before .if1 .taken)) (c .before .before .put-refusal .ensures)
+    rw (printed-refused (stageAt (c .before .before .before .before .before .before .args .p) builtInRates) (c .before .before .before .before .if1 .taken))
+    (c .before .before .put-refusal .ensures)
 
 put-refusal-requires-2 : tie.Need-put-refusal-requires-2
 put-refusal-requires-2 c κs = refusal-room 2 1 (length (now (c .before .before .before .before .args .out))) (omega arith) (omega arith) (omega arith)
 
 returns-2 : tie.Need-returns-2
 returns-2 c =
-    rw (printed-empty (stageAt (c .before .before .before .before .before .before .before .args .p) builtInRates) (c .before .before .before .before .before .if1 .left) (c .before .before .before .before .if2 .taken))
+    rw (printed-empty (stageAt (c .before .before .before .before .before .before .before .args .p) builtInRates)
+    (c .before .before .before .before .before .if1 .left) (c .before .before .before .before .if2 .taken))
     (c .before .before .put-refusal2 .ensures)
 
 put-refusal-requires-3 : tie.Need-put-refusal-requires-3
 put-refusal-requires-3 c κs =
-    refusal-room 6 (c .before .before .before .before .before .before .before .before .before .before .before .args .p .number) _ (omega arith) (omega arith) (search needs)
+    refusal-room 6 (c .before .before .before .before .before .before .before .before .before .before .before .args .p .number) _ (omega arith) (omega arith)
+    (search needs)
 
 returns-3 : tie.Need-returns-3
 returns-3 c =
     let a = c .before .before .before .before .before .before .before .before .before .before .before .before .before .before .args in
     let d = c .before .before .before .before .before .before .before .before .close in
-    let k = closing-refused (stateAt (a .p .book) builtInRates) (now (a .out)) (omega arith) (d .ensures .0) (d .ensures .1) (c .before .before .before .before .if3 .taken) in
+    let k = closing-refused (stateAt (a .p .book) builtInRates) (now (a .out)) (omega arith) (d .ensures .0) (d .ensures .1)
+    (c .before .before .before .before .if3 .taken) in
     rw (
-      printed-end (stageAt (a .p) builtInRates) (c .before .before .before .before .before .before .before .before .before .before .before .before .if1 .left) (c .before .before .before .before .before .before .before .before .before .before .before .if2 .left),
+      printed-end (stageAt (a .p) builtInRates) (c .before .before .before .before .before .before .before .before .before .before .before .before .if1 .left)
+          (c .before .before .before .before .before .before .before .before .before .before .before .if2 .left),
       k .1 (a .p .number),
       ← k .0,
     )
@@ -48,7 +53,8 @@ returns-4 : tie.Need-returns-4
 returns-4 c =
     let a = c .before .before .before .before .before .before .before .before .before .before .args in
     let d = c .before .before .before .before .close in
-    rw (printed-end (stageAt (a .p) builtInRates) (c .before .before .before .before .before .before .before .before .if1 .left) (c .before .before .before .before .before .before .before .if2 .left))
+    rw (printed-end (stageAt (a .p) builtInRates) (c .before .before .before .before .before .before .before .before .if1 .left)
+    (c .before .before .before .before .before .before .before .if2 .left))
     (closing-written (stateAt (a .p .book) builtInRates) (now (a .out)) (omega arith) (d .ensures .0) (d .ensures .1) (c .if3 .left) (a .p .number))
 
 pub put-answer-spec : {M : Type 1} → statement M

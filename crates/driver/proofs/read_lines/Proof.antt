@@ -12,7 +12,8 @@ returns c =
     let l = c .before .before .before .before .before .lines in
     let h = c .before .before .hold in
     lines-read (a .p) (l .result .progress) (a .rates .now) (a .bytes .now) (a .before) (h .last .0) (l .result .rest) (h .result) (a .read)
-    (l .ensures .0) (l .ensures .1 .0 .0) (l .ensures .1 .0 .1) (l .ensures .1 .1 .0) (l .ensures .1 .1 .1) (start .pre .1) (h .ensures .0) (h .ensures .1) (search needs)
+    (l .ensures .0) (l .ensures .1 .0 .0) (l .ensures .1 .0 .1) (l .ensures .1 .1 .0) (l .ensures .1 .1 .1) (start .pre .1) (h .ensures .0) (h .ensures .1)
+    (search needs)
 
 pub read-lines-spec : {M : Type 1} → statement M
 read-lines-spec =

@@ -18,9 +18,20 @@ sound = record { book = empty-sound zeroHeader (record { loans = omega arith; un
 returns : tie.Need-returns
 unfolding unbroken
 returns c =
-    let b : emptyBook zeroHeader ≡ record { header = zeroHeader; sums = c .before .none .result } = λ i. record { header = zeroHeader; sums = sym (c .before .none .ensures) i } in (
+    let b : emptyBook zeroHeader ≡ record { header = zeroHeader; sums = c .before .none .result } =
+    λ i. record { header = zeroHeader; sums = sym (c .before .none .ensures) i } in (
       λ i. record { stage = record { refusal = 0; number = 1; state = stateAt (sym b i) builtInRates }; tail = [] },
-      (record { sound = subst (λ (x : Book). Sound (stateAt x builtInRates)) b sound; number = omega arith; held = omega arith; room = c .no-bytes .ensures; unended = refl }, refl),
+      (
+        record {
+          sound = subst (λ (x : Book). Sound (stateAt x builtInRates)) b sound;
+          number = omega arith;
+          held = omega arith;
+          room =
+              c .no-bytes .ensures;
+          unended = refl;
+        },
+        refl,
+      ),
     )
 
 pub start-spec : {M : Type 1} → statement M

@@ -18,7 +18,8 @@ returns-2 c =
     let a = start .args in
     let e = c .before .before .before .before .before .line-end in
     let h = c .before .before .hold in
-    all-held (a .run) (now (a .rates)) (now (a .chunk)) (start .pre .0) (e .result) (e .ensures .0) (h .result) (h .last .0) (h .ensures .0) (h .ensures .1) (search needs) (c .if2 .taken) (e .ensures .1 .1)
+    all-held (a .run) (now (a .rates)) (now (a .chunk)) (start .pre .0) (e .result) (e .ensures .0) (h .result) (h .last .0) (h .ensures .0) (h .ensures .1)
+    (search needs) (c .if2 .taken) (e .ensures .1 .1)
 
 end-held-requires : tie.Need-end-held-requires
 end-held-requires c κs =
@@ -38,8 +39,14 @@ end-held-requires c κs =
 read-lines-requires-2 : tie.Need-read-lines-requires-2
 read-lines-requires-2 c κs =
     let start = c .before .before .before .before .before .before .before .before .before .before .before .before .before .before .before in
-    let h = c .before .before .end-held in
-    (h .ensures .1 .0, rw (length-take, length-drop) (omega (arith, h .ensures .1 .1, start .pre .0 .number, c .before .before .before .before .if2 .left)), start .pre .1, start .pre .2, start .pre .3, search needs)
+    let h = c .before .before .end-held in (
+      h .ensures .1 .0,
+      rw (length-take, length-drop) (omega (arith, h .ensures .1 .1, start .pre .0 .number, c .before .before .before .before .if2 .left)),
+      start .pre .1,
+      start .pre .2,
+      start .pre .3,
+      search needs,
+    )
 
 returns-3 : tie.Need-returns-3
 returns-3 c =
@@ -47,7 +54,8 @@ returns-3 c =
     let a = start .args in
     let e = c .before .before .before .before .before .before .before .before .before .before .line-end in
     let h = c .before .before .before .before .before .before .before .hold in
-    line-and-more (a .run) (now (a .rates)) (now (a .chunk)) (start .pre .0) (e .result) (e .ensures .0) (c .before .before .before .end-held .result) (h .result) (h .last .0) (h .ensures .0) (omega (arith, c .before .before .before .before .before .if2 .left))
+    line-and-more (a .run) (now (a .rates)) (now (a .chunk)) (start .pre .0) (e .result) (e .ensures .0) (c .before .before .before .end-held .result)
+    (h .result) (h .last .0) (h .ensures .0) (omega (arith, c .before .before .before .before .before .if2 .left))
     (c .before .before .before .end-held .ensures .0) (c .read-lines2 .ensures)
 
 pub step-spec : {M : Type 1} → statement M

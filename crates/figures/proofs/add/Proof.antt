@@ -33,7 +33,17 @@ sum-requires-2 c κs = omega arith
 
 returns : tie.Need-returns
 returns c =
-    rw (c .before .before .before .before .before .before .before .before .counts-sum .ensures, c .before .before .before .before .before .before .before .signed-sum .ensures, c .before .before .before .before .before .before .signed-sum2 .ensures, c .before .before .before .before .before .money-sum .ensures, c .before .before .before .before .money-sum2 .ensures, c .before .before .before .signed-sum3 .ensures, c .before .before .signed-sum4 .ensures, c .before .sum .ensures, c .sum2 .ensures) refl
+    rw (
+      c .before .before .before .before .before .before .before .before .counts-sum .ensures,
+      c .before .before .before .before .before .before .before .signed-sum .ensures,
+      c .before .before .before .before .before .before .signed-sum2 .ensures,
+      c .before .before .before .before .before .money-sum .ensures,
+      c .before .before .before .before .money-sum2 .ensures,
+      c .before .before .before .signed-sum3 .ensures,
+      c .before .before .signed-sum4 .ensures,
+      c .before .sum .ensures,
+      c .sum2 .ensures,
+    ) refl
 
 pub add-spec : {M : Type 1} → statement M
 add-spec =

@@ -16,7 +16,11 @@ add-signed : tie.Need-add-signed
 add-signed c = omega arith
 
 add-signed-2 : tie.Need-add-signed-2
-add-signed-2 c = omega (arith, admitted-le (c .before .before .before .excess .result) (c .before .before .before .before .args .b) (c .before .before .before .before .args .c))
+add-signed-2 c = omega (
+  arith,
+  admitted-le (c .before .before .before .excess .result) (c .before .before .before .before .args .b)
+      (c .before .before .before .before .args .c),
+)
 
 add-signed-3 : tie.Need-add-signed-3
 add-signed-3 c = omega arith
@@ -26,7 +30,11 @@ signed-requires c κs = omega arith
 
 returns : tie.Need-returns
 unfolding capitalOf
-returns c = rw (c .signed .ensures, c .before .before .before .before .before .both-admitted .ensures, c .before .before .before .before .before .before .excess .ensures) refl
+returns c = rw (
+  c .signed .ensures,
+  c .before .before .before .before .before .both-admitted .ensures,
+  c .before .before .before .before .before .before .excess .ensures,
+) refl
 
 pub capital-spec : {M : Type 1} → statement M
 capital-spec =

@@ -12,7 +12,13 @@ returns c = rw (eq-eqb (c .before .args .required) 0 (c .if1 .taken))
 
 returns-2 : tie.Need-returns-2
 unfolding ratioOf
-returns-2 c = rw (ne-eqb (c .before .before .before .before .before .args .required) 0 (c .before .before .before .before .if1 .left), c .before .before .ratio-size .ensures, c .before .before .before .excess .ensures, c .ratio-size2 .ensures, c .before .excess2 .ensures) refl
+returns-2 c = rw (
+  ne-eqb (c .before .before .before .before .before .args .required) 0 (c .before .before .before .before .if1 .left),
+  c .before .before .ratio-size .ensures,
+  c .before .before .before .excess .ensures,
+  c .ratio-size2 .ensures,
+  c .before .excess2 .ensures,
+) refl
 
 pub capital-ratio-spec : {M : Type 1} → statement M
 capital-ratio-spec =

@@ -43,7 +43,16 @@ capital-ratio-requires c κs =
 returns : tie.Need-returns
 unfolding figuresOf requiredOf
 returns c =
-    rw (c .capital-ratio .ensures, c .before .capital .ensures, c .before .before .oper .ensures, c .before .before .before .whole-cents2 .ensures, c .before .before .before .before .whole-cents .ensures, c .before .before .before .before .before .home .ensures, c .before .before .before .before .before .before .signed2 .ensures, c .before .before .before .before .before .before .before .signed .ensures) refl
+    rw (
+      c .capital-ratio .ensures,
+      c .before .capital .ensures,
+      c .before .before .oper .ensures,
+      c .before .before .before .whole-cents2 .ensures,
+      c .before .before .before .before .whole-cents .ensures,
+      c .before .before .before .before .before .home .ensures,
+      c .before .before .before .before .before .before .signed2 .ensures,
+      c .before .before .before .before .before .before .before .signed .ensures,
+    ) refl
 
 pub compute-spec : {M : Type 1} → statement M
 compute-spec =

@@ -14,14 +14,19 @@ returns c = sym (size-limit (c .before .args .negative) (c .before .args .n) (c 
 add-result : tie.Need-add-result
 add-result c =
     let s = c .before .before .before .before .before in
-    omega (arith, quotient-small (s .args .n) (s .args .d) (s .pre .0) (c .before .before .before .before .if1 .left), ap (λ (t : Division). t .quotient) (c .before .before .before .divide-scaled .ensures))
+    omega (
+      arith,
+      quotient-small (s .args .n) (s .args .d) (s .pre .0) (c .before .before .before .before .if1 .left),
+      ap (λ (t : Division). t .quotient) (c .before .before .before .divide-scaled .ensures),
+    )
 
 returns-2 : tie.Need-returns-2
 returns-2 c =
     let s = c .before .before .before .before .before in
     let up = size-up (s .args .n) (s .args .d) (s .pre .0) (c .before .before .before .before .if1 .left) in
     let x = c .before .before .before .divide-scaled .ensures in
-    rw (c .before .before .if2 .taken) (ap₂ _+_ (ap (λ (t : Division). t .quotient) x) (c .before .smaller .ensures ∙ ap (λ (t : Division). min (t .remainder) 1) x) ∙ sym up)
+    rw (c .before .before .if2 .taken) (ap₂ _+_ (ap (λ (t : Division). t .quotient) x) (c .before .smaller .ensures
+    ∙ ap (λ (t : Division). min (t .remainder) 1) x) ∙ sym up)
 
 returns-3 : tie.Need-returns-3
 returns-3 c =

@@ -13,11 +13,20 @@ tenths-small term done e = rw e (tenths-bounded term done)
 
 mul-result : tie.Need-mul-result
 mul-result c =
-    omega (arith, bounded (c .before .args .premium) (c .provision-tenths .result) 100000000 60 (c .before .pre .0) (tenths-small (c .before .args .term) (c .before .args .done) (c .provision-tenths .ensures)))
+    omega (
+      arith,
+      bounded (c .before .args .premium) (c .provision-tenths .result) 100000000 60 (c .before .pre .0)
+          (tenths-small (c .before .args .term) (c .before .args .done) (c .provision-tenths .ensures)),
+    )
 
 mul-result-2 : tie.Need-mul-result-2
 mul-result-2 c =
-    omega (arith, bounded (c .before .args .premium * c .provision-tenths .result) (c .before .args .scale) (100000000 * 60) 12500 (bounded (c .before .args .premium) (c .provision-tenths .result) 100000000 60 (c .before .pre .0) (tenths-small (c .before .args .term) (c .before .args .done) (c .provision-tenths .ensures))) (c .before .pre .1))
+    omega (
+      arith,
+      bounded (c .before .args .premium * c .provision-tenths .result) (c .before .args .scale) (100000000 * 60) 12500
+          (bounded (c .before .args .premium) (c .provision-tenths .result) 100000000 60 (c .before .pre .0)
+          (tenths-small (c .before .args .term) (c .before .args .done) (c .provision-tenths .ensures))) (c .before .pre .1),
+    )
 
 returns : tie.Need-returns
 returns c = rw (c .provision-tenths .ensures) refl

@@ -14,11 +14,19 @@ returns-2 c = rw (lt-leb _ _ (c .before .before .before .if1 .left), le-leb _ _ 
 
 returns-3 : tie.Need-returns-3
 unfolding provisionTenths
-returns-3 c = rw (lt-leb _ _ (c .before .before .before .before .if1 .left), lt-leb _ _ (c .before .before .before .if2 .left), le-leb _ _ (c .before .before .if3 .taken)) (c .cell3 .ensures)
+returns-3 c = rw (
+  lt-leb _ _ (c .before .before .before .before .if1 .left),
+  lt-leb _ _ (c .before .before .before .if2 .left),
+  le-leb _ _ (c .before .before .if3 .taken),
+) (c .cell3 .ensures)
 
 returns-4 : tie.Need-returns-4
 unfolding provisionTenths
-returns-4 c = rw (lt-leb _ _ (c .before .before .before .before .if1 .left), lt-leb _ _ (c .before .before .before .if2 .left), lt-leb _ _ (c .before .before .if3 .left)) (c .cell4 .ensures)
+returns-4 c = rw (
+  lt-leb _ _ (c .before .before .before .before .if1 .left),
+  lt-leb _ _ (c .before .before .before .if2 .left),
+  lt-leb _ _ (c .before .before .if3 .left),
+) (c .cell4 .ensures)
 
 pub provision-tenths-spec : {M : Type 1} → statement M
 provision-tenths-spec =

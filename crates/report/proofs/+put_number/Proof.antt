@@ -63,14 +63,19 @@ put-number-put-number-requires : (t : ℕ) → put-number-lts.Need-put-number-re
   put-number-below t,
   put-number.Post,
 ) (put-number-at t) put-number.Post
-put-number-put-number-requires t c κs = (omega arith, le-of-lt (more-room (c .before .before .before .args .n) _ (c .before .if1 .left) (c .before .before .before .pre .1)))
+put-number-put-number-requires t c κs = (
+  omega arith,
+  le-of-lt
+      (more-room (c .before .before .before .args .n) _ (c .before .if1 .left) (c .before .before .before .pre .1)),
+)
 
 put-number-slice-write-out-2 : (t : ℕ) → put-number-lts.Need-slice-write-out-2 (
   put-number-below t,
   put-number.Post,
 ) (put-number-at t) put-number.Post
 put-number-slice-write-out-2 t c =
-    let room = more-room (c .before .before .before .before .before .before .args .n) _ (c .before .before .before .before .if1 .left) (c .before .before .before .before .before .before .pre .1) in
+    let room = more-room (c .before .before .before .before .before .before .args .n) _ (c .before .before .before .before .if1 .left)
+    (c .before .before .before .before .before .before .pre .1) in
     omega arith
 
 put-number-add-result : (t : ℕ) → put-number-lts.Need-add-result (
@@ -78,7 +83,8 @@ put-number-add-result : (t : ℕ) → put-number-lts.Need-add-result (
   put-number.Post,
 ) (put-number-at t) put-number.Post
 put-number-add-result t c =
-    let room = more-room (c .before .before .before .before .before .before .args .n) _ (c .before .before .before .before .if1 .left) (c .before .before .before .before .before .before .pre .1) in
+    let room = more-room (c .before .before .before .before .before .before .args .n) _ (c .before .before .before .before .if1 .left)
+    (c .before .before .before .before .before .before .pre .1) in
     omega arith
 
 put-number-same-length-2 : (t : ℕ) → put-number-lts.Need-same-length-2 (
@@ -92,7 +98,8 @@ put-number-returns-2 : (t : ℕ) → put-number-lts.Need-returns-2 (
   put-number.Post,
 ) (put-number-at t) put-number.Post
 put-number-returns-2 t c =
-    more-digits (c .before .before .before .before .before .before .args .out .now) (c .before .before .put-number .last .0) (c .before .before .before .before .before .before .args .n) (c .before .before .put-number .result)
+    more-digits (c .before .before .before .before .before .before .args .out .now) (c .before .before .put-number .last .0)
+    (c .before .before .before .before .before .before .args .n) (c .before .before .put-number .result)
     (c .before .before .before .before .if1 .left) (c .before .before .before .before .before .before .pre .1) (c .before .before .put-number .ensures)
 
 pub +put-number-spec : {M : Type 1} → statement M

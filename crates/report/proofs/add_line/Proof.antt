@@ -21,7 +21,10 @@ add-result : tie.Need-add-result
 add-result c = omega (arith, short (c .before .before .before .before .before .before), c .before .before .put-line .ensures .count)
 
 returns : tie.Need-returns
-returns c = (added (c .before .before .put-line .ensures), omega (arith, short (c .before .before .before .before .before .before), c .before .before .put-line .ensures .count))
+returns c = (
+  added (c .before .before .put-line .ensures),
+  omega (arith, short (c .before .before .before .before .before .before), c .before .before .put-line .ensures .count),
+)
 
 pub add-line-spec : {M : Type 1} → statement M
 add-line-spec =

@@ -1,4 +1,5 @@
--- `report::put_bytes` meets its contract. The loop's invariant: the bytes of `s` passed so far are written onto the buffer, which keeps its length. The measure is what is left of `s`.
+-- `report::put_bytes` meets its contract. The loop's invariant: the bytes of `s` passed so far are written onto the buffer, which keeps its length.
+-- The measure is what is left of `s`.
 -- Assumes nothing.
 use mathlib.Core.List.{List}
 use lib.Seq.{take-all}
@@ -25,14 +26,19 @@ loop-holds c = search needs
 loop-again : tie.Need-loop-again Inv-loop μ-loop
 loop-again c = (
   search needs,
-  rw (c .before .before .loop .inv .1) (onto-next (c .before .before .before .args .out .now) (c .before .before .before .args .s .now) (c .before .before .loop .i) (search needs) (search needs)),
+  rw (c .before .before .loop .inv .1) (onto-next (c .before .before .before .args .out .now) (c .before .before .before .args .s .now)
+      (c .before .before .loop .i) (search needs) (search needs)),
   search needs,
 )
 
 returns : tie.Need-returns Inv-loop μ-loop
 returns c =
     let e : c .before .loop .i ≡ length (c .before .before .args .s .now) = omega arith in
-    record { count = e; bytes = c .before .loop .inv .1 ∙ ap (λ (t : List ℕ). onto (c .before .before .args .out .now) t) (take-all (c .before .loop .i) (c .before .before .args .s .now) (omega arith)) }
+    record {
+      count = e;
+      bytes = c .before .loop .inv .1 ∙ ap (λ (t : List ℕ). onto (c .before .before .args .out .now) t)
+          (take-all (c .before .loop .i) (c .before .before .args .s .now) (omega arith));
+    }
 
 pub put-bytes-spec : {M : Type 1} → statement M
 put-bytes-spec =

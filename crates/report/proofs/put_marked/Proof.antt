@@ -18,10 +18,12 @@ put-bytes-requires : tie.Need-put-bytes-requires
 put-bytes-requires c κs = omega (arith, rest-length (c .before .before .before .args .out .now) (c .before .before .before .args .mark))
 
 same-length : tie.Need-same-length
-same-length c = c .before .out .given .1 ∙ length-set (c .before .before .before .before .before .before .args .out .now) 0 (c .before .before .before .before .before .before .args .mark)
+same-length c = c .before .out .given .1 ∙ length-set (c .before .before .before .before .before .before .args .out .now) 0
+    (c .before .before .before .before .before .before .args .mark)
 
 returns : tie.Need-returns
-returns c = written-more (written-first (c .before .before .before .before .before .before .args .out .now) (c .before .before .before .before .before .before .args .mark) (omega arith)) (c .before .before .put-bytes .ensures)
+returns c = written-more (written-first (c .before .before .before .before .before .before .args .out .now)
+    (c .before .before .before .before .before .before .args .mark) (omega arith)) (c .before .before .put-bytes .ensures)
 
 pub put-marked-spec : {M : Type 1} → statement M
 put-marked-spec =

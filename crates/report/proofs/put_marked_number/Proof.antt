@@ -18,10 +18,12 @@ put-number-requires : tie.Need-put-number-requires
 put-number-requires c κs = omega (arith, rest-length (c .before .before .args .out .now) (c .before .before .args .mark))
 
 same-length : tie.Need-same-length
-same-length c = c .before .out .given .1 ∙ length-set (c .before .before .before .before .before .args .out .now) 0 (c .before .before .before .before .before .args .mark)
+same-length c = c .before .out .given .1 ∙ length-set (c .before .before .before .before .before .args .out .now) 0
+    (c .before .before .before .before .before .args .mark)
 
 returns : tie.Need-returns
-returns c = written-more (written-first (c .before .before .before .before .before .args .out .now) (c .before .before .before .before .before .args .mark) (omega arith)) (c .before .before .put-number .ensures)
+returns c = written-more (written-first (c .before .before .before .before .before .args .out .now) (c .before .before .before .before .before .args .mark)
+    (omega arith)) (c .before .before .put-number .ensures)
 
 pub put-marked-number-spec : {M : Type 1} → statement M
 put-marked-number-spec =

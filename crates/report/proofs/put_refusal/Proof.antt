@@ -41,14 +41,23 @@ part-put-bytes-start : tie.Need-part-put-bytes-start
 part-put-bytes-start c = omega (arith, size (c .before .before .before .before .before .before .before .before .before .before .before .before .before .before))
 
 put-bytes-requires : tie.Need-put-bytes-requires
-put-bytes-requires c κs = omega (arith, size (c .before .before .before .before .before .before .before .before .before .before .before .before .before .before .before .before))
+put-bytes-requires c κs = omega (
+  arith,
+  size (c .before .before .before .before .before .before .before .before .before .before .before
+      .before .before .before .before .before),
+)
 
 add-result : tie.Need-add-result
-add-result c = omega (arith, size (c .before .before .before .before .before .before .before .before .before .before .before .before .before .before .before .before .before .before .before))
+add-result c = omega (
+  arith,
+  size (c .before .before .before .before .before .before .before .before .before .before .before .before .before
+      .before .before .before .before .before .before),
+)
 
 returns : tie.Need-returns
 returns c =
-    end (field (field (begin (c .before .before .before .before .before .before .before .before .before .before .before .before .before .before .before .put-marked .ensures))
+    end (field (field (begin (c .before .before .before .before .before .before .before .before .before .before .before .before .before
+    .before .before .put-marked .ensures))
     (c .before .before .before .before .before .before .before .before .before .before .before .put-marked-number .ensures))
     (c .before .before .before .before .before .before .before .put-marked-number2 .ensures))
     (c .before .before .put-bytes .ensures)

@@ -40,7 +40,11 @@ put-bytes-requires : tie.Need-put-bytes-requires
 put-bytes-requires c κs = omega (arith, size (c .before .before .before .before .before .before .before .before .before .before .before .before .before))
 
 add-result : tie.Need-add-result
-add-result c = omega (arith, size (c .before .before .before .before .before .before .before .before .before .before .before .before .before .before .before .before))
+add-result c = omega (
+  arith,
+  size (c .before .before .before .before .before .before .before .before .before .before .before .before .before
+      .before .before .before),
+)
 
 returns : tie.Need-returns
 returns c =

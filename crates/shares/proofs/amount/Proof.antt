@@ -26,11 +26,21 @@ returns-5 c = rw (c .before .before .enum-told5 .given .1, c .capital2 .ensures,
 
 returns-6 : tie.Need-returns-6
 unfolding amountShare
-returns-6 c = rw (c .before .before .before .enum-told6 .given .1, c .capital3 .ensures, c .before .no-amount4 .ensures, c .before .before .no-amount3 .ensures) refl
+returns-6 c = rw (
+  c .before .before .before .enum-told6 .given .1,
+  c .capital3 .ensures,
+  c .before .no-amount4 .ensures,
+  c .before .before .no-amount3 .ensures,
+) refl
 
 returns-7 : tie.Need-returns-7
 unfolding amountShare
-returns-7 c = rw (c .before .before .before .enum-told7 .given .1, c .capital4 .ensures, c .before .no-amount6 .ensures, c .before .before .no-amount5 .ensures) refl
+returns-7 c = rw (
+  c .before .before .before .enum-told7 .given .1,
+  c .capital4 .ensures,
+  c .before .no-amount6 .ensures,
+  c .before .before .no-amount5 .ensures,
+) refl
 
 pub amount-spec : {M : Type 1} → statement M
 amount-spec =

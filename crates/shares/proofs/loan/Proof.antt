@@ -10,13 +10,23 @@ use Rattle.shares.proofs.loan.Tie as tie
 
 charge-requires : tie.Need-charge-requires
 charge-requires c κs =
-    let t : Terms = under (c .before .before .args .h) (now (c .before .before .args .rates)) in
-    (rw (c .before .factor .ensures) (chargeable (rates-chargeable t (c .before .before .pre .2)) (c .before .before .args .l) (c .before .before .pre .0)), c .before .before .pre .1)
+    let t : Terms = under (c .before .before .args .h) (now (c .before .before .args .rates)) in (
+      rw (c .before .factor .ensures) (chargeable (rates-chargeable t (c .before .before .pre .2)) (c .before .before .args .l) (c .before .before .pre .0)),
+      c .before .before .pre .1,
+    )
 
 returns : tie.Need-returns
 unfolding loanShare loanNumbers kindCounts
 returns c =
-    rw (c .before .before .before .before .unscored .ensures, c .before .before .before .no-money .ensures, c .before .before .no-money2 .ensures, c .before .no-amount .ensures, c .no-amount2 .ensures, c .before .before .before .before .before .before .before .charge .ensures, c .before .before .before .before .before .before .before .before .before .factor .ensures) refl
+    rw (
+      c .before .before .before .before .unscored .ensures,
+      c .before .before .before .no-money .ensures,
+      c .before .before .no-money2 .ensures,
+      c .before .no-amount .ensures,
+      c .no-amount2 .ensures,
+      c .before .before .before .before .before .before .before .charge .ensures,
+      c .before .before .before .before .before .before .before .before .before .factor .ensures,
+    ) refl
 
 pub loan-spec : {M : Type 1} → statement M
 loan-spec =

@@ -15,7 +15,8 @@ returns c =
     let a = c .before .before .before .args in
     let s = c .before .skip-blocks in
     let n : length (drop (s .result) (a .chunk .now)) ≡ length (a .chunk .now) - s .result = length-drop (s .result) (a .chunk .now) in
-    let f : c .find .result ≡ s .result + indexOf newline (drop (s .result) (a .chunk .now)) = found-in-rest (a .chunk .now) (s .result) (c .find .ensures .0) in
+    let f : c .find .result ≡ s .result + indexOf newline (drop (s .result) (a .chunk .now)) =
+    found-in-rest (a .chunk .now) (s .result) (c .find .ensures .0) in
     (f ∙ sym (s .ensures .0), (omega (arith, f, s .ensures .0), omega (arith, f, s .ensures .1, index-inside (drop (s .result) (a .chunk .now)))))
 
 pub line-end-spec : {M : Type 1} → statement M
