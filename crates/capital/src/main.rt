@@ -41,7 +41,7 @@ fn read_once(run: Run, exps: &Exponentials, rates: &Rates, buf: &mut [u8]) -> Tu
     let n = io::count(got, buf);
     let next = driver::step(run, exps, rates, &buf[0..n]);
     let p = next.progress;
-    let more = (0 < n) & (p.refusal == 0) & (next.held <= 240);
+    let more = (0 < n) & (p.refusal == 0) & (next.held <= line_forms::LONGEST_LINE);
     Turn {
         run: next,
         count: n,
