@@ -109,34 +109,8 @@ returns-7 c = holds-not (found (c .before)) _ NoForm (c .if6 .left)
 pub loan-spec : {M : Type 1} → statement M
 loan-spec =
     tie.close
-    (tie.spec
-    (λ c κs. search needs)
-    (λ c. search needs)
-    (λ c κs. search needs)
-    returns
-    add-long-at
-    (λ c κs. search needs)
-    (λ c. search needs)
-    (λ c κs. search needs)
-    returns-2
-    add-short-at
-    (λ c κs. search needs)
-    (λ c. search needs)
-    (λ c κs. search needs)
-    returns-3
-    add-short-at-2
-    (λ c κs. search needs)
-    (λ c. search needs)
-    (λ c κs. search needs)
-    returns-4
-    add-score-at
-    (λ c κs. search needs)
-    (λ c. search needs)
-    (λ c κs. search needs)
-    returns-5
-    add-short-at-3
-    (λ c κs. search needs)
-    (λ c. search needs)
-    (λ c κs. search needs)
-    returns-6
-    returns-7)
+    (tie.spec (λ c κs. search needs) (λ c. search needs) (λ c κs. search needs) returns add-long-at
+    (λ c κs. search needs) (λ c. search needs) (λ c κs. search needs) returns-2 add-short-at (λ c κs. search needs)
+    (λ c. search needs) (λ c κs. search needs) returns-3 add-short-at-2 (λ c κs. search needs) (λ c. search needs)
+    (λ c κs. search needs) returns-4 add-score-at (λ c κs. search needs) (λ c. search needs) (λ c κs. search needs)
+    returns-5 add-short-at-3 (λ c κs. search needs) (λ c. search needs) (λ c κs. search needs) returns-6 returns-7)
