@@ -35,6 +35,23 @@ pub struct Tally {
     pub outside: u64,
 }
 
+// The tally so far, and whether the input goes on.
+pub struct Block {
+    pub more: bool,
+    pub tally: Tally,
+}
+
+// Before the first block of the input.
+pub fn first_block() -> Block {
+    Block {
+        more: true,
+        tally: Tally {
+            within: 0,
+            outside: 0,
+        },
+    }
+}
+
 // One read into `buf`: no byte at the end of the input.
 fn read_once(buf: &mut [u8]) -> Input
     ensures { λ r. ⌜ r .count ≤ length (now (buf .entry)) ⌝ }

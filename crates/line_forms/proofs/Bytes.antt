@@ -214,6 +214,34 @@ part-longer low high s at end next n l h a e =
     rw (n, part-more s at end l h)
     (all-append low high (take (end - at) (drop at s)) (getD s end 0 ∷ []) a (rw e))
 
+-- a part of a line, from `at` to `end`, whose bytes are all in range
+pub record Part (low high : ℕ) : Type 0 where
+  pub line : List ℕ
+  pub at : ℕ
+  pub end : ℕ
+  pub order : at ≤ end
+  pub all : allWithin low high (take (end - at) (drop at line)) ≡ true
+
+-- no byte, one byte more, and the part as the run
+abbrev pub no-part : (low high : ℕ) → List ℕ → ℕ → Part low high
+no-part low high s at = record { line = s; at = at; end = at; order = omega arith; all = part-empty low high s at }
+
+abbrev pub more-part :
+    {low high : ℕ} (p : Part low high) (next : ℕ) → next ≡ p .end + 1 → p .end < length (p .line) →
+    within low high (getD (p .line) (p .end) 0) ≡ true → Part low high
+more-part {low} {high} p next n h e = record {
+  line = p .line;
+  at = p .at;
+  end = next;
+  order = omega (arith, p .order);
+  all = part-longer low high (p .line) (p .at) (p .end) next n (p .order) h (p .all) e;
+}
+
+pub run-part :
+    {low high : ℕ} (p : Part low high) → p .end < length (p .line) → within low high (getD (p .line) (p .end) 0) ≡ false →
+    take (p .end - p .at) (drop (p .at) (p .line)) ≡ runOf low high (drop (p .at) (p .line))
+run-part {low} {high} p h e = part-run low high (p .line) (p .at) (p .end) (p .order) h (p .all) e
+
 -- the part of a line after a text that stands in it
 pub rest-after : (s : List ℕ) (at : ℕ) (t x : List ℕ) → at ≤ length s → drop at s ≡ t ++ x → (at + length t ≤ length s) × (drop (at + length t) s ≡ x)
 rest-after s at t x h e = (

@@ -12,7 +12,7 @@ use Rattle.exact.specs.Choice.{pick}
 use Rattle.line_forms.specs.Bytes.{past, standsAt, after, runOf, same, allWithin}
 use Rattle.line_forms.specs.Numerals.{limit}
 use Rattle.line_forms.specs.Forms.{Form, Values, AllWritable, formText}
-use Rattle.line_forms.specs.Parsing.{valuesAt, afterForm, hasForm, lettersAt, placeOf}
+use Rattle.line_forms.specs.Parsing.{valuesAt, hasForm, lettersAt, placeOf}
 use Rattle.line_forms.specs.Contents.{headerForm, headerValues, loanForm, loanValues, policyForm, policyValues, classPlace, derivativeForm}
 use Rattle.line_forms.specs.Contents.{derivativeValues, kindPlace, assetForm, assetValues, plainForm, signedForm, amountForm, amountValues}
 use Rattle.line_forms.specs.Contents.{bytesOf, SignFits, Writable}
@@ -36,7 +36,7 @@ use Rattle.line_forms.specs.declared.Content.the-variants.{Header as hea
 use Rattle.line_forms.specs.declared.Content.the-variants.{Asset as asset, Amount as amount, NoForm}
 use Rattle.line_forms.proofs.Bytes.{run-exact, Stands, text-cases, stands-fits, after-true}
 use Rattle.line_forms.proofs.FieldLaws.{among, spelled}
-use Rattle.line_forms.proofs.FormLaws.{stops, proper, form-of, form-has, firstText, later, proper-later, form-stops}
+use Rattle.line_forms.proofs.FormLaws.{stops, proper, form-of, form-has, form-stops}
 
 -- From a line to what it holds: the line is the bytes of that.
 
@@ -76,7 +76,7 @@ proper-header : proper headerForm ≡ true
 unfolding stops spelled among same allWithin
 proper-header = refl
 
-proper-loan : proper loanForm ≡ true
+pub proper-loan : proper loanForm ≡ true
 unfolding stops
 proper-loan = refl
 
@@ -210,13 +210,6 @@ loan-begins s h =
     begun (inl k) = k .text
     begun (inr k) =
         absurd (omega (arith, after-true s 0 (text "(loan (bal ") h, stands-fits s 0 (text "(loan (bal ") h))
-
--- nor is one whose text after n fields does not stand
-pub loan-stops :
-    (n : ℕ) (s : List ℕ) (at : ℕ) → afterForm loanForm s 0 ≡ afterForm (later n loanForm) s at →
-    standsAt s at (firstText (later n loanForm)) ≡ false → NoForm ≡ loanHeld s
-unfolding loanHeld
-loan-stops n s at e h = rw (e, form-stops (later n loanForm) s at (proper-later n loanForm proper-loan) h)
 
 pub no-loan : (s : List ℕ) → standsAt s 0 (text "(loan (bal ") ≡ false → NoForm ≡ loanHeld s
 unfolding loanHeld

@@ -12,7 +12,7 @@ use lib.Seq.{drop-length}
 use Rattle.line_forms.specs.Bytes.{past, standsAt, after, runOf, within}
 use Rattle.line_forms.specs.Forms.{Field, Form, field, end, Values, FieldWritable, AllWritable, fieldText, formText}
 use Rattle.line_forms.specs.Parsing.{fieldAt, afterField, valuesAt, afterForm, hasForm}
-use Rattle.line_forms.proofs.Bytes.{and-both, rest-after, text-stands, Stands, text-cases, after-past, after-true, after-false}
+use Rattle.line_forms.proofs.Bytes.{and-both, rest-after, text-stands, Stands, text-cases, after-past, after-false}
 use Rattle.line_forms.proofs.NumberLaws.{Ends}
 use Rattle.line_forms.proofs.FieldLaws.{properField, field-written, FieldRead, field-read, field-past}
 
@@ -152,9 +152,3 @@ pub proper-later : (n : ℕ) (f : Form) → proper f ≡ true → proper (later 
 proper-later zero f p = p
 proper-later (suc n) (field t k f) p = proper-later n f (is-proper t k f p .rest)
 proper-later (suc n) (end t) p = refl
-
--- the step of a reader over a text that stands and the field after it
-pub form-next :
-    (t : List ℕ) (k : Field) (f : Form) (s : List ℕ) (at p : ℕ) → standsAt s at t ≡ true →
-    p ≡ afterField k s (at + length t) → afterForm (field t k f) s at ≡ afterForm f s p
-form-next t k f s at p h e = rw (← after-true s at t h, ← e)

@@ -11,5 +11,6 @@ pub mod LineLaws
 pub mod NumberLaws
 pub mod Numerals
 pub mod Positions
+pub mod Readers
 pub mod ScoreLaws
 pub mod Sizes

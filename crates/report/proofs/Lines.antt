@@ -47,6 +47,16 @@ module _ {old name xs : List ℕ} {a : ℕ} where
         Written old (line name fields) (a + r) (take a xs ++ (ys ++ drop (length xs - a) (drop a xs)))
     end b p = written-more (b .so-far) p
 
+-- a line with one field, from its three pieces
+pub one-field :
+    {old name w xs ys zs : List ℕ} {a r q : ℕ} →
+    let all = take a xs ++ (ys ++ drop (length xs - a) (drop a xs)) in
+    Written old (text "(" ++ name) a xs →
+    Written (take (length xs - a) (drop a xs)) (text " " ++ w) r ys →
+    Written (take (length all - (a + r)) (drop (a + r) all)) (text ")\n") q zs →
+    Written old (line name (w ∷ [])) (a + r + q) (take (a + r) all ++ (zs ++ drop (length all - (a + r)) (drop (a + r) all)))
+one-field n v e = end (field (begin n) v) e
+
 pub line-length : (name : List ℕ) (ws : List (List ℕ)) → length (line name ws) ≡ length name + length (spaced ws) + 3
 line-length name ws =
     omega (arith, length-append (name ++ spaced ws) (text ")\n"), length-append name (spaced ws))

@@ -4,15 +4,10 @@ ghost use mathlib.Core.Path.{_≡_};
 ghost use Prim.Native.Nat.{_<_, _≤_};
 ghost use lib.ListN.{length};
 ghost use Rattle.exponential.specs.Table.{exponentials};
+use cases::Block;
 use cases::Tally;
 use cases::Tried;
 use exponential::Exponentials;
-
-// The tally so far, and whether the input goes on.
-struct Block {
-    more: bool,
-    tally: Tally,
-}
 
 fn print_outside(y: u64, got: u64) {
     io::write_all(1, b"outside ");
@@ -80,13 +75,7 @@ fn try_block(before: Block, table: &Exponentials) -> Block
 fn try_all(table: &Exponentials) -> Tally
     requires { ⌜ now table ≡ exponentials ⌝ }
 {
-    let mut block = Block {
-        more: true,
-        tally: Tally {
-            within: 0,
-            outside: 0,
-        },
-    };
+    let mut block = cases::first_block();
     let mut turns = u64::MAX;
     while 0 < turns {
         block = try_block(block, table);

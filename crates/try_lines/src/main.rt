@@ -3,6 +3,7 @@
 // are then what it holds, else 0. The line is as many bytes as its length says, whatever they are.
 ghost use Prim.Native.Nat.{_+_, _<_, _≤_};
 ghost use lib.ListN.{length};
+use cases::Block;
 use cases::Number;
 use cases::Tally;
 use cases::Tried;
@@ -18,12 +19,6 @@ use line_forms::Line;
 use line_forms::Loan;
 use line_forms::Policy;
 use loan_charge::Score;
-
-// The tally so far, and whether the input goes on.
-struct Block {
-    more: bool,
-    tally: Tally,
-}
 
 // An answer as numbers.
 struct Answer {
@@ -118,63 +113,38 @@ fn item_number(item: Item) -> u64 {
     }
 }
 
+// A line read, with its first four values.
+fn accepted(kind: u64, a: u64, b: u64, c: u64, d: u64) -> Answer {
+    let mut r = refused(0);
+    r.kind = kind;
+    r.a = a;
+    r.b = b;
+    r.c = c;
+    r.d = d;
+    r
+}
+
 fn policy_answer(p: Policy) -> Answer {
     let class = p.class;
-    Answer {
-        refusal: 0,
-        kind: 3,
-        a: class_number(class),
-        b: p.premium,
-        c: p.term,
-        d: p.completed,
-        e: 0,
-        f: 0,
-        g: 0,
-    }
+    accepted(3, class_number(class), p.premium, p.term, p.completed)
 }
 
 fn derivative_answer(d: Derivative) -> Answer {
     let kind = d.kind;
-    Answer {
-        refusal: 0,
-        kind: 4,
-        a: kind_number(kind),
-        b: d.cost.plus,
-        c: d.cost.minus,
-        d: d.notional,
-        e: d.months,
-        f: d.payments,
-        g: d.factor,
-    }
+    let mut r = accepted(4, kind_number(kind), d.cost.plus, d.cost.minus, d.notional);
+    r.e = d.months;
+    r.f = d.payments;
+    r.g = d.factor;
+    r
 }
 
 fn asset_answer(x: Asset) -> Answer {
-    Answer {
-        refusal: 0,
-        kind: 5,
-        a: x.amount,
-        b: x.factor,
-        c: 0,
-        d: 0,
-        e: 0,
-        f: 0,
-        g: 0,
-    }
+    accepted(5, x.amount, x.factor, 0, 0)
 }
 
 fn amount_answer(x: Amount) -> Answer {
     let item = x.item;
-    Answer {
-        refusal: 0,
-        kind: 6,
-        a: item_number(item),
-        b: x.amount.plus,
-        c: x.amount.minus,
-        d: 0,
-        e: 0,
-        f: 0,
-        g: 0,
-    }
+    accepted(6, item_number(item), x.amount.plus, x.amount.minus, 0)
 }
 
 fn line_answer(l: Line) -> Answer {
@@ -330,13 +300,7 @@ fn try_block(before: Block) -> Block {
 
 // The blocks of the input. Nothing says that it ends, so their number is counted down from one that no run uses up.
 fn try_all() -> Tally {
-    let mut block = Block {
-        more: true,
-        tally: Tally {
-            within: 0,
-            outside: 0,
-        },
-    };
+    let mut block = cases::first_block();
     let mut turns = u64::MAX;
     while 0 < turns {
         block = try_block(block);

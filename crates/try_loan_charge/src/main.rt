@@ -6,6 +6,7 @@ ghost use mathlib.Core.Path.{_≡_};
 ghost use Prim.Native.Nat.{_<_, _≤_};
 ghost use lib.ListN.{length};
 ghost use Rattle.loan_charge.specs.Tables.{exponentials};
+use cases::Block;
 use cases::Number;
 use cases::Range;
 use cases::Tally;
@@ -16,12 +17,6 @@ use loan_charge::Score;
 use loan_charge::charge::Exponentials;
 use loan_charge::charge::LoanCharge;
 use loan_charge::credit::Rates;
-
-// The tally so far, and whether the input goes on.
-struct Block {
-    more: bool,
-    tally: Tally,
-}
 
 // The loan of a case, and the position after it.
 struct Loan {
@@ -246,13 +241,7 @@ fn try_block(before: Block, table: &Exponentials, rates: &Rates) -> Block
 fn try_all(table: &Exponentials, rates: &Rates) -> Tally
     requires { ⌜ now table ≡ exponentials ⌝ }
 {
-    let mut block = Block {
-        more: true,
-        tally: Tally {
-            within: 0,
-            outside: 0,
-        },
-    };
+    let mut block = cases::first_block();
     let mut turns = u64::MAX;
     while 0 < turns {
         block = try_block(block, table, rates);

@@ -6,36 +6,12 @@ use Rattle.coefficients.proofs.first_a.Tie as tie
 
 returns : tie.Need-returns
 unfolding scaledA
-returns c =
-    simp (
-      c .up-to5 .ensures,
-      c .before .minus2 .ensures,
-      c .before .before .up-to4 .ensures,
-      c .before .before .before .minus .ensures,
-      c .before .before .before .before .up-to3 .ensures,
-      c .before .before .before .before .before .up-to2 .ensures,
-      c .before .before .before .before .before .before .up-to .ensures,
-    )
+returns c = cc
 
 pub first-a-spec : {M : Type 1} → statement M
 first-a-spec =
     tie.close
-    (tie.spec
-    (λ c. search needs)
-    (λ c. search needs)
-    (λ c. search needs)
-    (λ c. search needs)
-    (λ c κs. search needs)
-    (λ c. search needs)
-    (λ c. search needs)
-    (λ c κs. search needs)
-    (λ c κs. search needs)
-    (λ c. search needs)
-    (λ c κs. search needs)
-    (λ c κs. search needs)
-    (λ c. search needs)
-    (λ c κs. search needs)
-    (λ c. search needs)
-    (λ c. search needs)
-    (λ c κs. search needs)
-    returns)
+    (tie.spec (λ c. search needs) (λ c. search needs) (λ c. search needs) (λ c. search needs) (λ c κs. search needs)
+    (λ c. search needs) (λ c. search needs) (λ c κs. search needs) (λ c κs. search needs) (λ c. search needs)
+    (λ c κs. search needs) (λ c κs. search needs) (λ c. search needs) (λ c κs. search needs) (λ c. search needs)
+    (λ c. search needs) (λ c κs. search needs) returns)

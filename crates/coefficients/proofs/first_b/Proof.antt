@@ -6,43 +6,13 @@ use Rattle.coefficients.proofs.first_b.Tie as tie
 
 returns : tie.Need-returns
 unfolding scaledB
-returns c =
-    simp (
-      c .up-to8 .ensures,
-      c .before .up-to7 .ensures,
-      c .before .before .up-to6 .ensures,
-      c .before .before .before .up-to5 .ensures,
-      c .before .before .before .before .up-to4 .ensures,
-      c .before .before .before .before .before .minus .ensures,
-      c .before .before .before .before .before .before .up-to3 .ensures,
-      c .before .before .before .before .before .before .before .up-to2 .ensures,
-      c .before .before .before .before .before .before .before .before .up-to .ensures,
-    )
+returns c = cc
 
 pub first-b-spec : {M : Type 1} → statement M
 first-b-spec =
     tie.close
-    (tie.spec
-    (λ c. search needs)
-    (λ c. search needs)
-    (λ c κs. search needs)
-    (λ c. search needs)
-    (λ c. search needs)
-    (λ c κs. search needs)
-    (λ c κs. search needs)
-    (λ c. search needs)
-    (λ c κs. search needs)
-    (λ c. search needs)
-    (λ c. search needs)
-    (λ c. search needs)
-    (λ c. search needs)
-    (λ c κs. search needs)
-    (λ c κs. search needs)
-    (λ c κs. search needs)
-    (λ c. search needs)
-    (λ c. search needs)
-    (λ c κs. search needs)
-    (λ c. search needs)
-    (λ c. search needs)
-    (λ c κs. search needs)
-    returns)
+    (tie.spec (λ c. search needs) (λ c. search needs) (λ c κs. search needs) (λ c. search needs) (λ c. search needs)
+    (λ c κs. search needs) (λ c κs. search needs) (λ c. search needs) (λ c κs. search needs) (λ c. search needs)
+    (λ c. search needs) (λ c. search needs) (λ c. search needs) (λ c κs. search needs) (λ c κs. search needs)
+    (λ c κs. search needs) (λ c. search needs) (λ c. search needs) (λ c κs. search needs) (λ c. search needs)
+    (λ c. search needs) (λ c κs. search needs) returns)

@@ -1,5 +1,4 @@
 -- `figures::add` meets its contract: each sum is a multiple of the lines, whose number is limited. Assumes nothing.
-use mathlib.Core.Path.{refl}
 use native.Mathlib.Omega.{arith}
 use Rattle.figures.proofs.add.Statement.{statement}
 use Rattle.figures.proofs.add.Tie as tie
@@ -32,18 +31,7 @@ sum-requires-2 : tie.Need-sum-requires-2
 sum-requires-2 c κs = omega arith
 
 returns : tie.Need-returns
-returns c =
-    rw (
-      c .before .before .before .before .before .before .before .before .counts-sum .ensures,
-      c .before .before .before .before .before .before .before .signed-sum .ensures,
-      c .before .before .before .before .before .before .signed-sum2 .ensures,
-      c .before .before .before .before .before .money-sum .ensures,
-      c .before .before .before .before .money-sum2 .ensures,
-      c .before .before .before .signed-sum3 .ensures,
-      c .before .before .signed-sum4 .ensures,
-      c .before .sum .ensures,
-      c .sum2 .ensures,
-    ) refl
+returns c = cc
 
 pub add-spec : {M : Type 1} → statement M
 add-spec =

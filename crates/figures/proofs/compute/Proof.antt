@@ -1,5 +1,4 @@
 -- `figures::compute` meets its contract: the bounds of the sums keep every figure within 64 bits. Assumes nothing.
-use mathlib.Core.Path.{refl}
 use Rattle.figures.proofs.FiguresLaws.{capital-within}
 use Rattle.figures.specs.Figures.{requiredOf, figuresOf, Within}
 use native.Mathlib.Omega.{arith}
@@ -42,17 +41,7 @@ capital-ratio-requires c κs =
 
 returns : tie.Need-returns
 unfolding figuresOf requiredOf
-returns c =
-    rw (
-      c .capital-ratio .ensures,
-      c .before .capital .ensures,
-      c .before .before .oper .ensures,
-      c .before .before .before .whole-cents2 .ensures,
-      c .before .before .before .before .whole-cents .ensures,
-      c .before .before .before .before .before .home .ensures,
-      c .before .before .before .before .before .before .signed2 .ensures,
-      c .before .before .before .before .before .before .before .signed .ensures,
-    ) refl
+returns c = cc
 
 pub compute-spec : {M : Type 1} → statement M
 compute-spec =

@@ -1,76 +1,38 @@
 -- `derivative` meets its contract.
-use borrow.Author.Tests.{eq-eqb, ne-eqb}
-use Rattle.line_forms.specs.Readings.{derivativeHeld}
 use borrow.Author.Needs.{needs}
+use Rattle.line_forms.specs.Contents.{derivativeForm}
+use Rattle.line_forms.specs.Readings.{derivativeWith, derivativeHeld}
+use Rattle.line_forms.specs.declared.Content.the-variants.{Derivative, NoForm}
+use Rattle.line_forms.proofs.Readers.{Reading, step, last, holds, holds-not}
 use Rattle.line_contents.proofs.derivative.Statement.{statement}
 use Rattle.line_contents.proofs.derivative.Tie as tie
 
+-- what the reader finds
+abbrev found :
+    (c : tie.After-skip) →
+    let start = c .before .before .before .before .before .before .before .before .before .before .before .before .before .before .before .before in
+    Reading (start .args .line .now) derivativeForm 0
+found c =
+    step (c .before .before .before .before .before .before .before .before .before .before .before .before .word-after .ensures)
+    (step (c .before .before .before .before .before .before .before .before .before .before .signed-after .ensures)
+    (step (c .before .before .before .before .before .before .before .before .number-after .ensures)
+    (step (c .before .before .before .before .before .before .number-after2 .ensures)
+    (step (c .before .before .before .before .number-after3 .ensures)
+    (step (c .before .before .number-after4 .ensures)
+    (last (c .skip .ensures)))))))
+
 returns : tie.Need-returns
 unfolding derivativeHeld
-returns c =
-    let n1 = c .before .before .before .before .before .before .before .before .before .before .before .before .before .before .before .word-after in
-    let n2 = c .before .before .before .before .before .before .before .before .before .before .before .before .before .signed-after in
-    let n3 = c .before .before .before .before .before .before .before .before .before .before .before .number-after in
-    let n4 = c .before .before .before .before .before .before .before .before .before .number-after2 in
-    let n5 = c .before .before .before .before .before .before .before .number-after3 in
-    let n6 = c .before .before .before .before .before .number-after4 in
-    rw (
-      ← n1 .ensures .1,
-      ← n2 .ensures .1,
-      ← n3 .ensures .1,
-      ← n4 .ensures .1,
-      ← n5 .ensures .1,
-      ← n6 .ensures .1,
-      ← c .before .before .before .skip .ensures,
-      eq-eqb _ _ (c .before .before .if1 .taken),
-      c .kind-at .ensures,
-      ← n1 .ensures .0,
-      ← n2 .ensures .0,
-      ← n3 .ensures .0,
-      ← n4 .ensures .0,
-      ← n5 .ensures .0,
-      ← n6 .ensures .0,
-    )
+returns c = rw (c .kind-at .ensures) (holds (found (c .before .before .before)) (λ v. Derivative (derivativeWith v)) NoForm (c .before .before .if1 .taken))
 
 returns-2 : tie.Need-returns-2
 unfolding derivativeHeld
-returns-2 c =
-    let n1 = c .before .before .before .before .before .before .before .before .before .before .before .before .before .word-after in
-    let n2 = c .before .before .before .before .before .before .before .before .before .before .before .signed-after in
-    let n3 = c .before .before .before .before .before .before .before .before .before .number-after in
-    let n4 = c .before .before .before .before .before .before .before .number-after2 in
-    let n5 = c .before .before .before .before .before .number-after3 in
-    let n6 = c .before .before .before .number-after4 in
-    rw (
-      ← n1 .ensures .1,
-      ← n2 .ensures .1,
-      ← n3 .ensures .1,
-      ← n4 .ensures .1,
-      ← n5 .ensures .1,
-      ← n6 .ensures .1,
-      ← c .before .skip .ensures,
-      ne-eqb _ _ (c .if1 .left),
-    )
+returns-2 c = holds-not (found (c .before)) _ NoForm (c .if1 .left)
 
 pub derivative-spec : {M : Type 1} → statement M
 derivative-spec =
     tie.close
-    (tie.spec
-    (λ c. search needs)
-    (λ c. search needs)
-    (λ c κs. search needs)
-    (λ c. search needs)
-    (λ c κs. search needs)
-    (λ c. search needs)
-    (λ c κs. search needs)
-    (λ c. search needs)
-    (λ c κs. search needs)
-    (λ c. search needs)
-    (λ c κs. search needs)
-    (λ c. search needs)
-    (λ c κs. search needs)
-    (λ c. search needs)
-    (λ c κs. search needs)
-    (λ c κs. search needs)
-    returns
-    returns-2)
+    (tie.spec (λ c. search needs) (λ c. search needs) (λ c κs. search needs) (λ c. search needs) (λ c κs. search needs)
+    (λ c. search needs) (λ c κs. search needs) (λ c. search needs) (λ c κs. search needs) (λ c. search needs)
+    (λ c κs. search needs) (λ c. search needs) (λ c κs. search needs) (λ c. search needs) (λ c κs. search needs)
+    (λ c κs. search needs) returns returns-2)

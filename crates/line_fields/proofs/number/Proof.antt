@@ -3,7 +3,10 @@ use mathlib.Core.Path.{_≡_, _∙_, ap}
 use mathlib.Core.Bool.{true}
 use Rattle.line_forms.specs.Bytes.{allWithin}
 use native.Mathlib.Omega.{arith}
+use Prim.Native.Nat.{_+_}
 use lib.ListN.{length, drop}
+use Rattle.line_forms.specs.Numerals.{valueFrom}
+use Rattle.line_forms.specs.Parsing.{numberAt, afterNumber}
 use Rattle.line_forms.proofs.Numerals.{count-some, none-count, none-zero, numeral-of}
 use Rattle.line_forms.proofs.Positions.{number-found, number-missing}
 use Rattle.line_forms.proofs.Bytes.{run-fits, run-within}
@@ -28,6 +31,20 @@ returns-2 c =
     (rw (← c .before .before .before .before .before .before .pre) (none-zero (a .digits .now) (c .before .if2 .taken))) in
     (c .missing2 .ensures .0 ∙ m .0, c .missing2 .ensures .1 ∙ m .1)
 
+-- what the digits say
+found :
+    (c : tie.Else2) →
+    let a = c .before .before .before .before .before .args in
+    (valueFrom 0 (a .digits .now) ≡ numberAt (a .line .now) (a .at)) ×
+    (a .at + length (a .digits .now) ≡ afterNumber (a .line .now) (a .at))
+found c =
+    let s = c .before .before .before .before .before in
+    let a = s .args in
+    let k = count-some (length (a .digits .now)) (c .before .before .if1 .left) in
+    let t : allWithin 48 57 (a .digits .now) ≡ true = rw (s .pre) (run-within 48 57 (drop (a .at) (a .line .now))) in
+    let f = number-found (a .line .now) (a .at) (rw (← s .pre) (numeral-of (a .digits .now) (k .0) (k .1) (c .if2 .left) t)) in
+    (rw (s .pre) (f .0), rw (s .pre) (f .1))
+
 few-value-requires : tie.Need-few-value-requires
 few-value-requires c κs =
     let s = c .before .before .before .before .before .before in (
@@ -42,13 +59,7 @@ add-t11 c =
     record { fits = omega (arith, ap length (s .pre), run-fits 48 57 (s .args .line .now) (s .args .at), s .good) }
 
 returns-3 : tie.Need-returns-3
-returns-3 c =
-    let s = c .before .before .before .before .before .before .before in
-    let a = s .args in
-    let k = count-some (length (a .digits .now)) (c .before .before .before .before .if1 .left) in
-    let t : allWithin 48 57 (a .digits .now) ≡ true = rw (s .pre) (run-within 48 57 (drop (a .at) (a .line .now))) in
-    let f = number-found (a .line .now) (a .at) (rw (← s .pre) (numeral-of (a .digits .now) (k .0) (k .1) (c .before .before .if2 .left) t)) in
-    (c .few-value .ensures ∙ rw (s .pre) (f .0), rw (s .pre) (f .1))
+returns-3 c = let f = found (c .before .before) in (c .few-value .ensures ∙ f .0, f .1)
 
 value-of-requires : tie.Need-value-of-requires
 value-of-requires c κs =
@@ -63,13 +74,7 @@ add-t13 c =
     record { fits = omega (arith, ap length (s .pre), run-fits 48 57 (s .args .line .now) (s .args .at), s .good) }
 
 returns-4 : tie.Need-returns-4
-returns-4 c =
-    let s = c .before .before .before .before .before .before .before in
-    let a = s .args in
-    let k = count-some (length (a .digits .now)) (c .before .before .before .before .if1 .left) in
-    let t : allWithin 48 57 (a .digits .now) ≡ true = rw (s .pre) (run-within 48 57 (drop (a .at) (a .line .now))) in
-    let f = number-found (a .line .now) (a .at) (rw (← s .pre) (numeral-of (a .digits .now) (k .0) (k .1) (c .before .before .if2 .left) t)) in
-    (c .value-of .ensures ∙ rw (s .pre) (f .0), rw (s .pre) (f .1))
+returns-4 c = let f = found (c .before .before) in (c .value-of .ensures ∙ f .0, f .1)
 
 pub number-spec : {M : Type 1} → statement M
 number-spec =

@@ -3,7 +3,7 @@
 use native.Mathlib.Omega.{arith}
 use lib.ListN.{length}
 use Rattle.report.specs.Decimal.{signed}
-use Rattle.report.proofs.Lines.{begin, field, end, one-length}
+use Rattle.report.proofs.Lines.{one-field, one-length}
 use mathlib.Core.Path.{_≡_}
 use mathlib.Core.List.{[], _∷_}
 use Prim.Native.Nat.{_+_}
@@ -45,25 +45,12 @@ add-result c = omega (arith, size (c .before .before .before .before .before .be
 
 returns : tie.Need-returns
 returns c =
-    end (field (begin (c .before .before .before .before .before .before .before .before .before .before .before .put-marked .ensures))
-    (c .before .before .before .before .before .before .before .put-value .ensures))
-    (c .before .before .put-bytes .ensures)
+    let value = c .before .before .before .before .before .before .before in
+    one-field (value .before .before .before .before .put-marked .ensures) (value .put-value .ensures) (c .before .before .put-bytes .ensures)
 
 pub put-line-spec : {M : Type 1} → statement M
 put-line-spec =
     tie.close
-    (tie.spec
-    put-marked-requires
-    sub-put-value
-    part-put-value-start
-    (λ c. search needs)
-    put-value-requires
-    add-at
-    sub-put-bytes
-    part-put-bytes-start
-    (λ c. search needs)
-    (λ c. search needs)
-    put-bytes-requires
-    add-result
-    (λ c. search needs)
-    returns)
+    (tie.spec put-marked-requires sub-put-value part-put-value-start (λ c. search needs) put-value-requires add-at
+    sub-put-bytes part-put-bytes-start (λ c. search needs) (λ c. search needs) put-bytes-requires add-result
+    (λ c. search needs) returns)

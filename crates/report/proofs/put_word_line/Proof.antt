@@ -2,7 +2,7 @@
 -- Assumes nothing.
 use native.Mathlib.Omega.{arith}
 use lib.ListN.{length}
-use Rattle.report.proofs.Lines.{begin, field, end, one-length}
+use Rattle.report.proofs.Lines.{one-field, one-length}
 use mathlib.Core.Path.{_≡_}
 use mathlib.Core.List.{[], _∷_}
 use Prim.Native.Nat.{_+_}
@@ -48,25 +48,12 @@ add-result c = omega (
 
 returns : tie.Need-returns
 returns c =
-    end (field (begin (c .before .before .before .before .before .before .before .before .before .before .before .put-marked .ensures))
-    (c .before .before .before .before .before .before .before .put-marked2 .ensures))
-    (c .before .before .put-bytes .ensures)
+    let value = c .before .before .before .before .before .before .before in
+    one-field (value .before .before .before .before .put-marked .ensures) (value .put-marked2 .ensures) (c .before .before .put-bytes .ensures)
 
 pub put-word-line-spec : {M : Type 1} → statement M
 put-word-line-spec =
     tie.close
-    (tie.spec
-    put-marked-requires
-    sub-put-marked
-    part-put-marked-start
-    (λ c. search needs)
-    put-marked-requires-2
-    add-at
-    sub-put-bytes
-    part-put-bytes-start
-    (λ c. search needs)
-    (λ c. search needs)
-    put-bytes-requires
-    add-result
-    (λ c. search needs)
-    returns)
+    (tie.spec put-marked-requires sub-put-marked part-put-marked-start (λ c. search needs) put-marked-requires-2 add-at
+    sub-put-bytes part-put-bytes-start (λ c. search needs) (λ c. search needs) put-bytes-requires add-result
+    (λ c. search needs) returns)

@@ -6,22 +6,10 @@ use Rattle.line_forms.proofs.ranges.derivative.Tie as tie
 
 returns : tie.Need-returns
 unfolding derivativeInRange
-returns c =
-    rw (
-      c .before .before .before .before .money .ensures,
-      c .before .before .before .between .ensures,
-      c .before .before .between2 .ensures,
-      c .before .between3 .ensures,
-      c .between4 .ensures,
-    )
+returns c = cc
 
 pub derivative-spec : {M : Type 1} → statement M
 derivative-spec =
     tie.close
-    (tie.spec
-    (λ c κs. search needs)
-    (λ c κs. search needs)
-    (λ c κs. search needs)
-    (λ c κs. search needs)
-    (λ c κs. search needs)
-    returns)
+    (tie.spec (λ c κs. search needs) (λ c κs. search needs) (λ c κs. search needs) (λ c κs. search needs)
+    (λ c κs. search needs) returns)

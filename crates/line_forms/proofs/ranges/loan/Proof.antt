@@ -6,24 +6,10 @@ use Rattle.line_forms.proofs.ranges.loan.Tie as tie
 
 returns : tie.Need-returns
 unfolding loanInRange
-returns c =
-    rw (
-      c .before .before .before .before .before .between .ensures,
-      c .before .before .before .before .between2 .ensures,
-      c .before .before .before .between3 .ensures,
-      c .before .before .between4 .ensures,
-      c .before .score .ensures,
-      c .between5 .ensures,
-    )
+returns c = cc
 
 pub loan-spec : {M : Type 1} → statement M
 loan-spec =
     tie.close
-    (tie.spec
-    (λ c κs. search needs)
-    (λ c κs. search needs)
-    (λ c κs. search needs)
-    (λ c κs. search needs)
-    (λ c κs. search needs)
-    (λ c κs. search needs)
-    returns)
+    (tie.spec (λ c κs. search needs) (λ c κs. search needs) (λ c κs. search needs) (λ c κs. search needs)
+    (λ c κs. search needs) (λ c κs. search needs) returns)
