@@ -1,4 +1,4 @@
--- Division with its remainder.
+-- Need not be believed: division with its remainder, as the code computes it.
 use Prim.Native.Nat.{ℕ, _/_, _%_}
 use Rattle.fixed_point.specs.declared.Division.{Division}
 

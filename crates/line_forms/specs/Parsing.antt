@@ -1,4 +1,5 @@
--- Reading a form, from a position of a line on. A field that does not stand there gives the position past the end, where nothing stands.
+-- Need not be believed: Claims.antt says what reading comes to. Reading a form, from a position of a line on: a field that does not stand
+-- there gives the position past the end, where nothing stands.
 use Prim.Native.Nat.{ℕ, suc, _+_}
 use mathlib.Core.Bool.{Bool}
 use mathlib.Core.List.{List, [], _∷_}

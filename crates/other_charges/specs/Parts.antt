@@ -1,4 +1,4 @@
--- The same charges in ten-millionths of a cent, as the code computes them. Each is tied to the paper's by a law of proofs/ChargeLaws.antt.
+-- Need not be believed: a law of proofs/ChargeLaws.antt ties each of these to the paper's charge. The charges in ten-millionths of a cent.
 use Prim.Native.Nat.{ℕ, _+_, _*_}
 use Rattle.line_forms.specs.declared.Kind.{Kind}
 use Rattle.other_charges.specs.Charges.{provisionTenths, addOnThousandths}
