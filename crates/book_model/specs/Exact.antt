@@ -3,8 +3,8 @@ use Prim.Native.Nat.{ℕ}
 use mathlib.Core.List.{List, [], _∷_, _++_}
 use Rattle.exact.specs.Fraction.{Fraction, whole, _⊕_}
 use Rattle.exact.specs.Quantity.{Assignment, Quantity}
-use Rattle.fixed_point.specs.declared.Signed.{Signed}
 use Rattle.loan_charge.specs.Charge.{totalQuantity, supplementQuantity}
+use Rattle.loan_charge.specs.Promise.{signedCents}
 use Rattle.line_forms.specs.declared.Loan.{Loan}
 use Rattle.line_forms.specs.declared.Class.{Class}
 use Rattle.line_forms.specs.declared.Class.the-variants.{Home, Multi}
@@ -19,10 +19,6 @@ use Rattle.other_charges.specs.Charges.{assetCharge, shareCharge, claimsPercent
 use Rattle.other_charges.specs.Charges.{multiProvision}
 use Rattle.book_model.specs.Terms.{Terms, loanInputs}
 use Rattle.book_model.specs.Requirement.{exactRequired}
-
--- plus - minus
-abbrev pub signedFraction : Signed → Fraction
-signedFraction x = record { plus = x .plus; minus = x .minus; over = 1 }
 
 -- a loan's exact base plus supplement, and its exact supplement
 abbrev pub loanTotal : Terms → Loan → Quantity
@@ -74,7 +70,7 @@ exactShare t (header h) = nothing
 exactShare t (loan l) = record { rest = whole 0; moved = whole 0; total = loanTotal t l; supplement = loanSupplement t l }
 exactShare t (policy p) = exactPolicy (p .class) (p .premium) (p .term) (p .completed)
 exactShare t (derivative d) =
-    charged (derivativeCharge (d .kind) (signedFraction (d .cost)) (d .notional) (d .months) (d .payments) (d .factor))
+    charged (derivativeCharge (d .kind) (signedCents (d .cost)) (d .notional) (d .months) (d .payments) (d .factor))
 exactShare t (asset a) = charged (assetCharge (a .amount) (a .factor))
 exactShare t (amount a) = exactAmount (a .item) (a .amount .plus)
 exactShare t NoForm = nothing
