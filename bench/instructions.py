@@ -15,7 +15,7 @@ import make_book
 
 ROOT = Path(__file__).resolve().parent.parent
 PROGRAM = ROOT / "target" / "bin" / "capital"
-LIMIT = 1_350  # instructions a loan: 2% above what the program takes
+LIMIT = 1_300  # instructions a loan
 FEW, MANY = 1_000, 3_000
 SEED = 1
 

@@ -1,7 +1,8 @@
 // Readers of a field: a text, a run of bytes, a number.
 ghost use mathlib.Core.Path.{_≡_};
 ghost use Prim.Native.Nat.{_-_, _≤_, _<_};
-ghost use mathlib.Core.Bool.{true};
+ghost use mathlib.Core.Bool.{true, _&&_};
+ghost use lib.Dec.{eqb, ltb};
 ghost use lib.ListN.{length, drop, getD};
 ghost use Rattle.line_forms.specs.Bytes.{same as sameBytes, standsAt, after, past, runOf, within, allWithin};
 ghost use Rattle.line_forms.specs.Forms.{choicesOf};
@@ -128,7 +129,7 @@ fn few_digits(line: &[u8], at: usize) -> &[u8]
     if size <= at {
         return run(line, at, b'0', b'9');
     }
-    if size - at <= 3 {
+    if size - at <= 2 {
         return run(line, at, b'0', b'9');
     }
     if !digit(line[at]) {
@@ -141,6 +142,9 @@ fn few_digits(line: &[u8], at: usize) -> &[u8]
     let two = at + 2;
     if !digit(line[two]) {
         return &line[at..two];
+    }
+    if size - at == 3 {
+        return run(line, at, b'0', b'9');
     }
     let three = at + 3;
     if !digit(line[three]) {
@@ -210,6 +214,16 @@ fn few_value(digits: &[u8]) -> u64
     two * 10 + digit_at(digits, 2)
 }
 
+// Whether more than one digit stands and the first is a 0. One digit is told by its count alone, which is the soonest way to read it.
+fn zero_first(digits: &[u8]) -> bool
+    ensures { λ r. ⌜ r ≡ (eqb (getD (now (digits .entry)) 0 0) 48 && ltb 1 (length (now (digits .entry)))) ⌝ }
+{
+    if digits.len() <= 1 {
+        return false;
+    }
+    digits[0] == b'0'
+}
+
 // The number reader: what the digits at a position, a part of the line, say as a D.
 fn number(line: &[u8], at: usize, digits: &[u8]) -> Found
     requires { ⌜ now digits ≡ digitsAt (now line) at ⌝ }
@@ -219,7 +233,7 @@ fn number(line: &[u8], at: usize, digits: &[u8]) -> Found
     if (n == 0) | (MOST_DIGITS < n) {
         return missing(line);
     }
-    if (digits[0] == b'0') & (1 < n) {
+    if zero_first(digits) {
         return missing(line);
     }
     if n <= 3 {

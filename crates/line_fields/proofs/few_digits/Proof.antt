@@ -29,8 +29,8 @@ returns-4 c = run-part (one (c .before .before .before .before)) (omega arith) (
 returns-5 : tie.Need-returns-5
 returns-5 c = run-part (two (c .before .before .before .before)) (omega arith) (told-false (c .before .before .digit3 .ensures) (c .before .if5 .taken))
 
-returns-6 : tie.Need-returns-6
-returns-6 c = run-part (three (c .before .before .before .before)) (omega arith) (told-false (c .before .before .digit4 .ensures) (c .before .if6 .taken))
+returns-7 : tie.Need-returns-7
+returns-7 c = run-part (three (c .before .before .before .before .before)) (omega arith) (told-false (c .before .before .digit4 .ensures) (c .before .if7 .taken))
 
 pub few-digits-spec : {M : Type 1} → statement M
 few-digits-spec =
@@ -39,5 +39,6 @@ few-digits-spec =
     (λ c. search needs) (λ c κs. search needs) (λ c κs. search needs) (λ c. search needs) (λ c. search needs)
     (λ c. search needs) (λ c κs. search needs) (λ c. search needs) (λ c. search needs) (λ c. search needs) returns-4
     (λ c. search needs) (λ c. search needs) (λ c κs. search needs) (λ c. search needs) (λ c. search needs)
-    (λ c. search needs) returns-5 (λ c. search needs) (λ c. search needs) (λ c κs. search needs) (λ c. search needs)
-    (λ c. search needs) (λ c. search needs) returns-6 (λ c κs. search needs) (λ c. search needs))
+    (λ c. search needs) returns-5 (λ c. search needs) (λ c κs. search needs) (λ c. search needs) (λ c. search needs)
+    (λ c. search needs) (λ c κs. search needs) (λ c. search needs) (λ c. search needs) (λ c. search needs) returns-7
+    (λ c κs. search needs) (λ c. search needs))

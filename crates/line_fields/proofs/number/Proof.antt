@@ -1,5 +1,5 @@
 -- `number` meets its contract.
-use mathlib.Core.Path.{_≡_, _∙_, ap}
+use mathlib.Core.Path.{_≡_, _∙_, ap, sym}
 use mathlib.Core.Bool.{true}
 use Rattle.line_forms.specs.Bytes.{allWithin}
 use native.Mathlib.Omega.{arith}
@@ -20,15 +20,11 @@ returns c =
     let m = number-missing (a .line .now) (a .at) (rw (← c .before .before .before .before .pre) (none-count (a .digits .now) (c .before .if1 .taken))) in
     (c .missing .ensures .0 ∙ m .0, c .missing .ensures .1 ∙ m .1)
 
-shared-slice-read-if2 : tie.Need-shared-slice-read-if2
-shared-slice-read-if2 c =
-    count-some (length (c .before .before .before .before .args .digits .now)) (c .before .if1 .left) .0
-
 returns-2 : tie.Need-returns-2
 returns-2 c =
     let a = c .before .before .before .before .before .before .args in
     let m = number-missing (a .line .now) (a .at)
-    (rw (← c .before .before .before .before .before .before .pre) (none-zero (a .digits .now) (c .before .if2 .taken))) in
+    (rw (← c .before .before .before .before .before .before .pre) (none-zero (a .digits .now) (sym (c .before .before .zero-first .ensures) ∙ c .before .if2 .taken))) in
     (c .missing2 .ensures .0 ∙ m .0, c .missing2 .ensures .1 ∙ m .1)
 
 -- what the digits say
@@ -42,7 +38,7 @@ found c =
     let a = s .args in
     let k = count-some (length (a .digits .now)) (c .before .before .if1 .left) in
     let t : allWithin 48 57 (a .digits .now) ≡ true = rw (s .pre) (run-within 48 57 (drop (a .at) (a .line .now))) in
-    let f = number-found (a .line .now) (a .at) (rw (← s .pre) (numeral-of (a .digits .now) (k .0) (k .1) (c .if2 .left) t)) in
+    let f = number-found (a .line .now) (a .at) (rw (← s .pre) (numeral-of (a .digits .now) (k .0) (k .1) (sym (c .before .zero-first .ensures) ∙ c .if2 .left) t)) in
     (rw (s .pre) (f .0), rw (s .pre) (f .1))
 
 few-value-requires : tie.Need-few-value-requires
@@ -53,8 +49,8 @@ few-value-requires c κs =
       c .if3 .taken,
     )
 
-add-t11 : tie.Need-add-t11
-add-t11 c =
+add-t10 : tie.Need-add-t10
+add-t10 c =
     let s = c .before .before .before .before .before .before .before in
     record { fits = omega (arith, ap length (s .pre), run-fits 48 57 (s .args .line .now) (s .args .at), s .good) }
 
@@ -68,8 +64,8 @@ value-of-requires c κs =
       count-some (length (s .args .digits .now)) (c .before .before .before .if1 .left) .1,
     )
 
-add-t13 : tie.Need-add-t13
-add-t13 c =
+add-t12 : tie.Need-add-t12
+add-t12 c =
     let s = c .before .before .before .before .before .before .before in
     record { fits = omega (arith, ap length (s .pre), run-fits 48 57 (s .args .line .now) (s .args .at), s .good) }
 
@@ -82,12 +78,12 @@ number-spec =
     (tie.spec
     (λ c κs. search needs)
     returns
-    shared-slice-read-if2
+    (λ c κs. search needs)
     (λ c κs. search needs)
     returns-2
     few-value-requires
-    add-t11
+    add-t10
     returns-3
     value-of-requires
-    add-t13
+    add-t12
     returns-4)

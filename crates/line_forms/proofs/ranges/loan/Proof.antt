@@ -6,7 +6,16 @@ use Rattle.line_forms.proofs.ranges.loan.Tie as tie
 
 returns : tie.Need-returns
 unfolding loanInRange
-returns c = cc
+returns c =
+    let amortization = c .before .before .before in
+    rw (
+      amortization .before .before .between .ensures,
+      amortization .before .between2 .ensures,
+      amortization .between3 .ensures,
+      c .before .before .between4 .ensures,
+      c .before .score .ensures,
+      c .between5 .ensures,
+    )
 
 pub loan-spec : {M : Type 1} → statement M
 loan-spec =
