@@ -7,7 +7,6 @@ use Prim.Native.Nat.{ℕ}
 use lib.Dec.{eqb}
 use Rattle.exact.specs.Choice.{pick}
 use Rattle.loan_charge.specs.CreditFactor.{builtInRates}
-use Rattle.line_forms.specs.declared.Content.{Content}
 use Rattle.line_forms.specs.declared.Content.the-variants.{Loan as loan}
 use Rattle.line_forms.specs.declared.Header.{Header}
 use Rattle.line_forms.specs.declared.HeaderLine.{HeaderLine}
@@ -23,7 +22,7 @@ use Rattle.book_model.specs.declared.Book.{Book}
 use Rattle.book_model.specs.declared.Opened.{Opened}
 use Rattle.book_model.specs.declared.Fed.{Fed}
 use Rattle.book_model.specs.Accepted.{loanBeyond, loanRefusal, otherRefusal, refusalFor}
-use Rattle.book_model.specs.Calls.{State, Answer, stateAt, termsIn, openedOf, fedOf, zeroHeader, emptyBook, openingFor, opening, bookAfter, feedingLine}
+use Rattle.book_model.specs.Calls.{State, stateAt, termsIn, openedOf, fedOf, zeroHeader, emptyBook, openingFor, opening, bookAfter, feedingLine}
 use Rattle.book_model.specs.Calls.{feeding, SoundBook, Sound}
 use Rattle.book_model.specs.LineKinds.{a-loan, another, contentKind, kindOf, kindCounts}
 use Rattle.book_model.specs.Ranges.{LoanRanges, Ranged}
@@ -31,7 +30,7 @@ use Rattle.book_model.specs.Share.{share, loanShare}
 use Rattle.book_model.specs.Steps.{answerWith}
 use Rattle.book_model.specs.Terms.{under}
 use Rattle.book_model.proofs.BoundedShares.{counted}
-use Rattle.book_model.proofs.Feeding.{Room, room, book-room, asks, line-bounded, fed-refused, fed-sound, opening-sound}
+use Rattle.book_model.proofs.Feeding.{room, book-room, asks, line-bounded, fed-refused, fed-sound, opening-sound}
 use Rattle.book_model.proofs.Ranged.{ranged, ranged-header}
 
 -- Opening: l is what was read of the line.

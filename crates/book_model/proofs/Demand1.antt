@@ -1,5 +1,5 @@
 -- Demand 1 over the definitions. Assumes nothing.
-use mathlib.Core.Path.{_≡_, refl, sym}
+use mathlib.Core.Path.{_≡_, refl}
 use mathlib.Core.Bool.{Bool, true, false}
 use mathlib.Core.List.{List, [], _∷_, List·Memᴰ, List·Memᴰ·head, List·Memᴰ·tail}
 use mathlib.Core.Logic.{_⊎_, ⊎-elim}
@@ -22,10 +22,10 @@ use Rattle.figures.proofs.FiguresLaws.{figures-bounded}
 use Rattle.book_report.proofs.Lengths.{report-most}
 use Rattle.book_model.specs.declared.Book.{Book}
 use Rattle.book_model.specs.Accepted.{mostOther, loanBeyond, refusalFor}
-use Rattle.book_model.specs.Calls.{State, termsIn, stateAt, openingFor, opening, refusalIn, bookAfter, feedingLine, feeding, tooFew, closingWith}
-use Rattle.book_model.specs.Calls.{closing, closed, reportSize, reportOf, SoundBook}
+use Rattle.book_model.specs.Calls.{State, stateAt, openingFor, refusalIn, bookAfter, feedingLine, tooFew, closingWith}
+use Rattle.book_model.specs.Calls.{reportSize, reportOf, SoundBook}
 use Rattle.book_model.specs.Demand1.{refusedState, Demand1}
-use Rattle.book_model.specs.LineKinds.{contentKind, kindOf}
+use Rattle.book_model.specs.LineKinds.{contentKind}
 use Rattle.book_model.proofs.Closings.{untouched}
 use Rattle.book_model.proofs.Feeding as feeding-laws
 use Rattle.book_model.proofs.Ranged.{ranged, ranged-header}

@@ -1,12 +1,11 @@
 -- Demand 2: each refusal when and only when its condition holds. Assumes nothing.
-use mathlib.Core.Path.{_≡_, refl, sym, ap, _∙_, subst}
+use mathlib.Core.Path.{_≡_, refl, sym, ap, _∙_}
 use mathlib.Core.Bool.{Bool, true, false, true≢false, _||_}
 use mathlib.Core.List.{List}
-use mathlib.Core.Logic.{_↔_, _⊎_, inl, inr, ⊎-elim}
+use mathlib.Core.Logic.{_⊎_, inl, inr, ⊎-elim}
 use Prim.Native.Nat.{ℕ, _+_, _≤_, _<_}
 use native.Mathlib.Omega.{arith}
 use lib.Dec.{leb}
-use lib.ListN.{length}
 use borrow.Author.Tests.{leb-true, leb-false, le-leb, lt-leb}
 use Rattle.exact.specs.Choice.{pick}
 use Rattle.loan_charge.specs.declared.Score.{Score}
@@ -22,14 +21,13 @@ use Rattle.line_forms.specs.declared.Line.the-variants.{Amount as AmountLine, R
 use Rattle.line_forms.specs.declared.HeaderLine.{HeaderLine}
 use Rattle.line_forms.specs.declared.HeaderLine.the-variants.{Header as HeaderRead, Refusal as HeaderRefusal}
 use Rattle.line_forms.specs.Readings.{lineOf, headerOf}
-use Rattle.line_forms.specs.Claims.{AfterHeader, lineWith, lineRefusal, headerRefusal, LineReading, HeaderReading}
-use Rattle.line_forms.specs.Contents.{inRange}
+use Rattle.line_forms.specs.Claims.{ShowsInRange, AfterHeader, lineWith, lineRefusal, headerRefusal, LineReading, HeaderReading}
 use Rattle.line_forms.proofs.LineLaws.{line-reading, line-accepted, line-numbers, refused-line}
 use Rattle.line_forms.proofs.HeaderLaws.{header-reading, header-accepted, header-numbers}
 use Rattle.figures.specs.declared.Counts.{Counts}
 use Rattle.book_model.specs.Accepted.{Accepted, countsIn, mostOther, loanBeyond, refusalFor, refusalOf}
 use Rattle.book_model.specs.Calls.{Answer, emptyState, openingFor, opening, closingRefusal, reportSize}
-use Rattle.book_model.specs.Demand2.{Shows, ShowsInRange, OtherForm, Counted, OpeningAnswer, LoanFits, LoanBeyond, Fits, FeedingAnswer, ClosingAnswer}
+use Rattle.book_model.specs.Demand2.{OtherForm, Counted, OpeningAnswer, LoanFits, LoanBeyond, Fits, FeedingAnswer, ClosingAnswer}
 use Rattle.book_model.specs.Demand2.{Demand2}
 use Rattle.book_model.specs.History.{opened, allFed, termsOf, acceptedOf}
 use Rattle.book_model.specs.LineKinds.{LineKind, a-loan, another, refused, contentKind, kindOf, kindCounts, unscoredCount}

@@ -1,14 +1,14 @@
 -- The exact requirement depends on the exponentials of its exponents alone. Assumes nothing.
 use mathlib.Core.Bool.{Bool, true, false}
-use mathlib.Core.List.{List, [], _∷_, _++_, List·Memᴰ, List·Memᴰ·not-nil}
+use mathlib.Core.List.{List, [], _∷_, List·Memᴰ, List·Memᴰ·not-nil}
 use Prim.Native.Nat.{ℕ}
 use native.Mathlib.Omega.{arith}
 use Rattle.exact.specs.Choice.{pick}
-use Rattle.exact.specs.Fraction.{Fraction, Proper, quotient, whole}
-use Rattle.exact.specs.Quantity.{Assignment, Quantity, DependsOn, Determined}
+use Rattle.exact.specs.Fraction.{Fraction, whole}
+use Rattle.exact.specs.Quantity.{DependsOn, Determined}
 use Rattle.exact.proofs.Dependence.{depends-constant, depends-sum, depends-product, depends-larger, depends-negated, depends-more, depends-left, depends-right}
 use Rattle.loan_charge.specs.declared.LoanInputs.{LoanInputs}
-use Rattle.loan_charge.specs.Charge.{baseExponents, allExponents, totalExponents, supplementExponents, totalQuantity, supplementQuantity, Chargeable}
+use Rattle.loan_charge.specs.Charge.{baseExponents, allExponents, totalExponents, supplementExponents}
 use Rattle.loan_charge.proofs.Promise.{promise}
 use Rattle.line_forms.specs.declared.Content.{Content}
 use Rattle.line_forms.specs.Claims.{lineContent}

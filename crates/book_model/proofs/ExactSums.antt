@@ -5,7 +5,7 @@ use mathlib.Core.List.{List, [], _∷_}
 use Prim.Native.Nat.{ℕ, _+_}
 use native.Mathlib.Omega.{arith}
 use lib.Dec.{lit<}
-use Rattle.exact.specs.Fraction.{Fraction, whole, _⊕_, ceiling}
+use Rattle.exact.specs.Fraction.{Fraction, _⊕_, ceiling}
 use Rattle.exact.proofs.Fractions
 use Rattle.exact.proofs.Fractions.{Nonnegative}
 use Rattle.exact.proofs.Within.{ceiling-alike}

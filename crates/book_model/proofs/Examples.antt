@@ -1,6 +1,5 @@
 -- The twelve examples, by computation. Assumes nothing.
 use mathlib.Core.Path.{_≡_, refl, ap, _∙_}
-use mathlib.Core.List.{map}
 use Prim.Native.Nat.{ℕ, _≤_}
 use native.Mathlib.Omega.{arith}
 use Rattle.exact.specs.Fraction.{ceiling}

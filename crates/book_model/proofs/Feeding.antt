@@ -1,7 +1,7 @@
 -- Every state that opening and feeding give is sound, and what the functions below the calls ask. Assumes nothing.
-use mathlib.Core.Path.{_≡_, refl, sym, _∙_, subst}
+use mathlib.Core.Path.{_≡_, refl, sym, subst}
 use mathlib.Core.Bool.{Bool, true, false, _||_}
-use Prim.Native.Nat.{ℕ, _+_, _≤_}
+use Prim.Native.Nat.{ℕ, _≤_}
 use native.Mathlib.Omega.{arith}
 use lib.Dec.{T, eqb, leb, eqb→eq}
 use borrow.Author.Tests.{leb-false}
@@ -24,7 +24,7 @@ use Rattle.figures.proofs.SumsLaws.{plus-bounded, none-bounded, plus-none}
 use Rattle.book_model.specs.declared.Book.{Book}
 use Rattle.book_model.specs.declared.Fed.{Fed}
 use Rattle.book_model.specs.Accepted.{mostOther, loanBeyond, refusalFor}
-use Rattle.book_model.specs.Calls.{State, termsIn, fedOf, zeroHeader, emptyBook, openingFor, refusalIn, bookWith, bookAfter, feedingLine, SoundBook}
+use Rattle.book_model.specs.Calls.{State, termsIn, fedOf, zeroHeader, emptyBook, openingFor, refusalIn, bookAfter, feedingLine, SoundBook}
 use Rattle.book_model.specs.Calls.{Sound}
 use Rattle.book_model.specs.LineKinds.{LineKind, a-loan, another, refused, contentKind, kindOf, kindCounts, unscoredCount}
 use Rattle.book_model.specs.Ranges.{Ranged, HeaderRanges, RangedHeader}

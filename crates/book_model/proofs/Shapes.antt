@@ -1,5 +1,5 @@
 -- What every line that is no loan adds, beside what it adds exactly: once for all forms. Assumes nothing.
-use mathlib.Core.Path.{_≡_, refl, ap, _∙_}
+use mathlib.Core.Path.{_≡_, refl}
 use Prim.Native.Nat.{ℕ, _+_, _-_, _*_, _≤_}
 use native.Mathlib.Omega.{arith}
 use Rattle.fixed_point.proofs.Laws.{bounded}
@@ -8,7 +8,6 @@ use Rattle.exact.specs.Fraction.{Fraction, whole}
 use Rattle.line_forms.specs.declared.Loan.{Loan}
 use Rattle.line_forms.specs.declared.Class.{Class}
 use Rattle.line_forms.specs.declared.Class.the-variants.{Home, Multi}
-use Rattle.line_forms.specs.declared.Policy.{Policy}
 use Rattle.line_forms.specs.declared.Derivative.{Derivative}
 use Rattle.line_forms.specs.declared.Asset.{Asset}
 use Rattle.line_forms.specs.declared.Item.{Item}
@@ -17,7 +16,7 @@ use Rattle.line_forms.specs.declared.Content.{Content}
 use Rattle.line_forms.specs.declared.Content.the-variants.{Header as header, Loan as loan, Policy as policy, Derivative as derivative, Asset as asset}
 use Rattle.line_forms.specs.declared.Content.the-variants.{Amount as amount, NoForm}
 use Rattle.other_charges.specs.Charges.{claimsPercent, lossComponentsPercent, statedPercent, provisionTenths, addOnThousandths}
-use Rattle.other_charges.specs.Parts.{assetParts, shareParts, derivativeParts, provisionParts}
+use Rattle.other_charges.specs.Parts.{assetParts, derivativeParts, provisionParts}
 use Rattle.other_charges.proofs.ChargeLaws.{InParts, asset-is, share-is, derivative-is, provision-is, multi-provision-is, tenths-bounded, add-on-bounded}
 use Rattle.figures.specs.declared.Sums.{Sums}
 use Rattle.figures.specs.Sums.{noSums, zeroSigned, moneyOf, Bounded}

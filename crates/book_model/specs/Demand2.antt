@@ -2,7 +2,7 @@
 -- Lines are spoken of by `bytesOf`, how a form's data is written, and not by any reader; counts by inequalities. Proved in proofs/Demand2.antt.
 use Prim.Native.Nat.{ℕ, _+_, _≤_, _<_}
 use mathlib.Core.Path.{_≡_}
-use mathlib.Core.Bool.{true, false}
+use mathlib.Core.Bool.{false}
 use mathlib.Core.List.{List}
 use mathlib.Core.Logic.{_↔_, _⊎_}
 use lib.ListN.{length}
@@ -13,8 +13,8 @@ use Rattle.line_forms.specs.declared.Loan.{Loan}
 use Rattle.line_forms.specs.declared.Content.{Content}
 use Rattle.line_forms.specs.declared.Content.the-variants.{Header as header, Loan as loan, Policy as policy, Derivative as derivative, Asset as asset}
 use Rattle.line_forms.specs.declared.Content.the-variants.{Amount as amount, NoForm}
-use Rattle.line_forms.specs.Contents.{bytesOf, Writable, inRange}
-use Rattle.line_forms.specs.Claims.{AfterHeader, NoBytes}
+use Rattle.line_forms.specs.Contents.{inRange}
+use Rattle.line_forms.specs.Claims.{Shows, ShowsInRange, AfterHeader, NoBytes}
 use Rattle.figures.specs.declared.Counts.{Counts}
 use Rattle.book_model.specs.Accepted.{Accepted, countsIn}
 use Rattle.book_model.specs.Calls.{Answer, emptyState, opening, feeding, closing}
@@ -22,16 +22,6 @@ use Rattle.book_model.specs.Demand3.{afterLines}
 use Rattle.book_model.specs.History.{opened, allFed, termsOf, acceptedOf}
 use Rattle.book_model.specs.LineKinds.{lineCounts}
 use Rattle.book_model.specs.Terms.{Terms, termsWith}
-
--- s is the bytes of data c
-pub record Shows (s : List ℕ) (c : Content) : Type 0 where
-  pub writable : Writable c
-  pub bytes : s ≡ bytesOf c
-
--- and its numbers are in range
-pub record ShowsInRange (s : List ℕ) (c : Content) : Type 0 where
-  pub shows : Shows s c
-  pub in-range : inRange c ≡ true
 
 -- data of a form that is neither a header's nor a loan's
 abbrev pub OtherForm : Content → Type 0

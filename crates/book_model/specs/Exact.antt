@@ -2,7 +2,7 @@
 use Prim.Native.Nat.{ℕ}
 use mathlib.Core.List.{List, [], _∷_, _++_}
 use Rattle.exact.specs.Fraction.{Fraction, whole, _⊕_}
-use Rattle.exact.specs.Quantity.{Assignment, Quantity}
+use Rattle.exact.specs.Quantity.{Quantity}
 use Rattle.loan_charge.specs.Charge.{totalQuantity, supplementQuantity}
 use Rattle.loan_charge.specs.Promise.{signedCents}
 use Rattle.line_forms.specs.declared.Loan.{Loan}

@@ -1,6 +1,6 @@
 -- What is known of the numbers of a line or header that is read: the ranges of document 01, as far as the book's code needs them.
 -- Nothing here has to be believed: proofs/Ranged.antt has it of every line, from the laws of line reading.
-use Prim.Native.Nat.{ℕ, _≤_}
+use Prim.Native.Nat.{_≤_}
 use Rattle.line_forms.specs.declared.Header.{Header}
 use Rattle.line_forms.specs.declared.Loan.{Loan}
 use Rattle.line_forms.specs.declared.Policy.{Policy}

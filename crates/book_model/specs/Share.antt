@@ -1,17 +1,14 @@
 -- What a line adds to the sums of its book (document 01, "The rest, and closing"): plain numbers, each line's by itself.
 -- Amounts of rest and moved are in ten-millionths of a cent, the paper's exact charges by the laws of other_charges.
 use Prim.Native.Nat.{ℕ, _-_}
-use mathlib.Core.Bool.{Bool, true, false}
 use Rattle.fixed_point.specs.declared.Signed.{Signed}
 use Rattle.loan_charge.specs.Computation.{chargeOf}
 use Rattle.loan_charge.specs.declared.charge.LoanCharge.{LoanCharge}
 use Rattle.line_forms.specs.declared.Loan.{Loan}
-use Rattle.line_forms.specs.declared.Policy.{Policy}
 use Rattle.line_forms.specs.declared.Class.{Class}
 use Rattle.line_forms.specs.declared.Class.the-variants.{Home, Multi}
 use Rattle.line_forms.specs.declared.Derivative.{Derivative}
 use Rattle.line_forms.specs.declared.Asset.{Asset}
-use Rattle.line_forms.specs.declared.Amount.{Amount}
 use Rattle.line_forms.specs.declared.Item.{Item}
 use Rattle.line_forms.specs.declared.Item.the-variants.{Claims, Lossc, Stated, Equity, Aoci, B, C}
 use Rattle.line_forms.specs.declared.Content.{Content}

@@ -11,7 +11,7 @@ use Rattle.figures.specs.declared.Ratio.{Ratio}
 use Rattle.figures.specs.declared.Ratio.the-variants.{Number, None}
 use Rattle.figures.specs.Figures.{RatioBounds, FigureBounds}
 use Rattle.report.proofs.Lines.{one-length, value-line-length}
-use Rattle.book_report.specs.Report.{unsigned, valueLine, ratioLine, headText, tailText, reportText}
+use Rattle.book_report.specs.Report.{unsigned, valueLine, ratioLine, reportText}
 
 -- at most n bytes
 record Fits (s : List ℕ) (n : ℕ) : Type 0 where

@@ -1,7 +1,6 @@
 // The report's ten lines, each written to what remains of the lent buffer.
 ghost use Prim.Native.Nat.{_+_, _≤_};
 ghost use mathlib.Core.List.{[], _∷_};
-ghost use mathlib.Core.Path.{_≡_};
 ghost use lib.ListN.{length};
 ghost use Rattle.report.specs.Decimal.{signed};
 ghost use Rattle.report.specs.Line.{line, Written, Added};

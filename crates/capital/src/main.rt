@@ -1,11 +1,11 @@
 // The mortgage capital book: reads a book from standard input and prints its report, or its refusal.
 ghost use mathlib.Core.Bool.{true, false};
 ghost use mathlib.Core.Path.{_≡_};
-ghost use Prim.Native.Nat.{_+_, _*_, _^_, _≤_};
-ghost use lib.ListN.{length, take};
+ghost use Prim.Native.Nat.{_+_, _^_, _≤_};
+ghost use lib.ListN.{length};
 ghost use Rattle.loan_charge.specs.Tables.{exponentials};
 ghost use Rattle.loan_charge.specs.CreditFactor.{builtInRates};
-ghost use Rattle.driver.specs.Reading.{withBytes, readingOf, Running};
+ghost use Rattle.driver.specs.Reading.{readingOf, Running};
 ghost use Rattle.capital.specs.Reads.{ReadsOn, Reached, EndsReading};
 use driver::Run;
 use loan_charge::charge::Exponentials;

@@ -1,10 +1,9 @@
 -- What is printed where the lines end, by cases. Assumes nothing.
-use mathlib.Core.Path.{_≡_, refl, sym, _∙_, ap, subst}
+use mathlib.Core.Path.{_≡_, refl, sym, _∙_, ap}
 use mathlib.Core.Bool.{Bool, true, false}
 use mathlib.Core.List.{List, [], _∷_}
 use Prim.Native.Nat.{ℕ, _≤_, _<_}
 use native.Mathlib.Omega.{arith}
-use lib.Dec.{ltb}
 use lib.ListN.{length, drop, length-append}
 use borrow.Author.Tests.{eq-eqb, ne-eqb, le-ltb}
 use Rattle.exact.specs.Choice.{pick}
@@ -13,7 +12,6 @@ use Rattle.report.specs.Decimal.{digits}
 use Rattle.report.specs.Line.{refusalLine, onto, Written}
 use Rattle.report.proofs.Decimal.{digits-length}
 use Rattle.report.proofs.Lines.{two-length}
-use Rattle.book_model.specs.declared.Book.{Book}
 use Rattle.book_model.specs.declared.Closed.{Closed}
 use Rattle.book_model.specs.Calls.{State, tooFew, closingWith, closing, closed, reportSize, reportOf}
 use Rattle.book_model.proofs.Closings.{untouched, writes, tells}

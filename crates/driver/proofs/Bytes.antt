@@ -7,7 +7,7 @@ use native.Mathlib.Omega.{arith}
 use native.Mathlib.Numerals.{add-one}
 use lib.Dec.{eqb, ltb}
 use lib.ListN.{length, take, drop, set, getD, length-append, length-take, length-drop, take-append-drop}
-use lib.Seq.{take-suc, take-suc-set, take-all, take-append-le, length-take-le, take-take, take-add, getD-drop}
+use lib.Seq.{take-suc, take-suc-set, take-all, take-append-le, length-take-le, take-take, take-add}
 use borrow.Author.Tests.{eq-eqb, ltb-true, ltb-false}
 use Rattle.bytes.specs.Bytes.{indexOf}
 use Rattle.line_forms.specs.declared.Line.the-variants.{Refusal}

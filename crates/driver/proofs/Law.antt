@@ -13,7 +13,6 @@ use Rattle.exact.specs.Choice.{pick}
 use Rattle.report.specs.Line.{refusalLine}
 use Rattle.line_forms.specs.declared.Line.the-variants.{Refusal}
 use Rattle.line_forms.specs.declared.HeaderLine.the-variants.{Refusal as HeaderRefusal}
-use Rattle.line_forms.specs.Readings.{lineOf, headerOf}
 use Rattle.book_model.specs.Accepted.{refusalFor}
 use Rattle.book_model.specs.Calls.{State, Answer, openingFor, opening, feedingLine, feeding}
 use Rattle.book_model.specs.LineKinds.{contentKind}

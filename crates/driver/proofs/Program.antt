@@ -1,5 +1,5 @@
 -- What the program prints of every input. Assumes nothing.
-use mathlib.Core.Path.{_≡_, refl, sym, _∙_, ap, ap₂, subst}
+use mathlib.Core.Path.{_≡_, refl, sym, _∙_, ap, ap₂}
 use mathlib.Core.Bool.{Bool, true, false}
 use mathlib.Core.List.{List, [], _∷_, _++_, append-assoc, append-nil, List·Permᴰ}
 use Prim.Native.Nat.{ℕ, _+_, _≤_}
@@ -11,9 +11,8 @@ use Rattle.exact.specs.Choice.{pick}
 use Rattle.report.specs.Line.{refusalLine}
 use Rattle.figures.specs.declared.Counts.{Counts}
 use Rattle.book_model.specs.Accepted.{Accepted, countsIn, refusalOf, accept}
-use Rattle.book_model.specs.Calls.{State, Answer, opening, feeding, tooFew, reportOf}
-use Rattle.book_model.specs.Demand2.{FeedingAnswer}
-use Rattle.book_model.specs.Demand3.{reportFor, Measured}
+use Rattle.book_model.specs.Calls.{State, opening, feeding, tooFew}
+use Rattle.book_model.specs.Demand3.{reportFor}
 use Rattle.book_model.specs.Examples.{workedHeader, workedLines, workedReport}
 use Rattle.book_model.specs.History.{History, opened, fed, allFed, termsOf, acceptedOf, linesTaken}
 use Rattle.book_model.specs.Terms.{Terms}
@@ -21,7 +20,7 @@ use Rattle.book_model.proofs.Closings.{few, enough}
 use Rattle.book_model.proofs.Demand2.{openings, feeding-answer}
 use Rattle.book_model.proofs.Demand3.{opened-is, terms-stay, report-is, report-permuted, measured-of, terms-in-range}
 use Rattle.book_model.proofs.Examples.{twelve, counts-none}
-use Rattle.book_model.proofs.Steps.{stateOf, bookOf, counts, step}
+use Rattle.book_model.proofs.Steps.{stateOf, counts, step}
 use Rattle.driver.specs.Printed.{lastOf, linesFrom, linesOf, printedAtEnd, printedFeeding, printedLines, printed}
 use Rattle.driver.specs.Program.{AllTaken, Outcome, no-line, not-opened, not-taken, too-few, report, Reports, workedInput, Program}
 use Rattle.driver.proofs.Law.{stops}

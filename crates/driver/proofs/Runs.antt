@@ -1,6 +1,6 @@
 -- What a run stands for after each of its steps: one lemma for each way that the proofs go. Assumes nothing.
 use mathlib.Core.Path.{_≡_, refl, sym, _∙_, ap, subst}
-use mathlib.Core.Bool.{Bool, true, false, _&&_, not, true≢false}
+use mathlib.Core.Bool.{Bool, true, false, _&&_, true≢false}
 use mathlib.Core.List.{List, [], _∷_, _++_}
 use Prim.Native.Nat.{ℕ, _+_, _-_, _≤_, _<_}
 use native.Mathlib.Omega.{arith}
@@ -13,9 +13,9 @@ use Rattle.report.specs.Line.{Written}
 use Rattle.book_model.specs.Calls.{stateAt, Sound}
 use Rattle.driver.specs.declared.Progress.{Progress}
 use Rattle.driver.specs.declared.Run.{Run}
-use Rattle.driver.specs.Printed.{printedFor, ended, printed, PrintsWhole}
-use Rattle.driver.specs.Reading.{Stage, Reading, fromStart, newline, unbroken, withLine, withTail, withBytes, stageAt, readingOf, Running}
-use Rattle.driver.proofs.Bytes.{bytes-append, bytes-tail, cut-same, first-line, no-line, line-ended, unbroken-tail}
+use Rattle.driver.specs.Printed.{printedFor, ended, PrintsWhole}
+use Rattle.driver.specs.Reading.{Stage, Reading, newline, unbroken, withLine, withTail, withBytes, stageAt, readingOf, Running}
+use Rattle.driver.proofs.Bytes.{bytes-append, bytes-tail, first-line, no-line, line-ended, unbroken-tail}
 use Rattle.driver.proofs.FirstNewline.{unbroken-append, index-unbroken}
 use Rattle.driver.proofs.Law.{whole}
 use Rattle.driver.proofs.LineLaws.{Ended, ended-by}

@@ -12,7 +12,7 @@ use Rattle.book_model.specs.Calls.{opening}
 use Rattle.book_model.specs.Demand2.{OpeningAnswer, FeedingAnswer}
 use Rattle.book_model.specs.Demand3.{reportFor, Measured}
 use Rattle.book_model.specs.Examples.{workedReport}
-use Rattle.book_model.specs.History.{opened, allFed, termsOf, acceptedOf, linesTaken}
+use Rattle.book_model.specs.History.{opened, allFed, termsOf, linesTaken}
 use Rattle.driver.specs.Printed.{linesOf, printed}
 use Rattle.driver.specs.Reading.{Reading, fromStart, withBytes}
 

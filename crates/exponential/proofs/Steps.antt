@@ -1,6 +1,6 @@
 -- The steps of the exponential: their bounds, and its two cases.
 -- Assumes nothing.
-use Prim.Native.Nat.{ℕ, _*_, _-_, _/_, _%_, _^_, _≤_, _<_}
+use Prim.Native.Nat.{ℕ, _*_, _/_, _%_, _^_, _≤_, _<_}
 use mathlib.Core.Path.{_≡_, refl}
 use native.Mathlib.Nat.{mul-le-mul, mul-le-mul-left, min-eq-left, min-eq-right, le-of-lt}
 use native.Mathlib.Omega.{arith}

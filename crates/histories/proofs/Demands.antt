@@ -1,8 +1,8 @@
 -- Demands 1 to 3 of the calls, from the theorems about the definitions that their contracts cite. Assumes nothing.
 use mathlib.Core.Path.{_≡_, refl, sym, _∙_, ap, ap₂, subst}
-use mathlib.Core.List.{List, List·Permᴰ}
+use mathlib.Core.List.{List}
 use Prim.Native.Nat.{ℕ}
-use lib.ListN.{length, take}
+use lib.ListN.{length}
 use Rattle.loan_charge.specs.CreditFactor.{builtInRates}
 use Rattle.line_forms.specs.declared.HeaderLine.{HeaderLine}
 use Rattle.line_forms.specs.declared.HeaderLine.the-variants.{Header as HeaderRead, Refusal as HeaderRefusal}
@@ -13,14 +13,14 @@ use Rattle.book_model.specs.declared.Fed.{Fed}
 use Rattle.book_model.specs.declared.Opened.{Opened}
 use Rattle.book_model.specs.Calls.{State, Answer, stateAt, openedOf, fedOf, openingFor, opening, feedingLine, feeding, closing, closed, Sound}
 use Rattle.book_model.specs.Demand3.{Closes, SameReports}
-use Rattle.book_model.specs.History.{History, opened, fed, termsOf, acceptedOf, linesTaken}
+use Rattle.book_model.specs.History.{History, termsOf, acceptedOf, linesTaken}
 use Rattle.book_model.specs.Terms.{Terms}
 use Rattle.book_model.proofs.Demand1.{demand1}
-use Rattle.book_model.proofs.Demand2.{demand2, openings, feeding-answer, closing-answer}
+use Rattle.book_model.proofs.Demand2.{openings, feeding-answer, closing-answer}
 use Rattle.book_model.proofs.Demand3.{opened-is, fed-is, terms-in-range, closes-of, measured-of, same-reports}
 use Rattle.book_model.proofs.Steps.{stateOf}
 use Rattle.histories.specs.Demands.{CallsDemand1, CallsDemand2, CallsDemand3}
-use Rattle.histories.specs.Given.{OpenCall, FeedCall, FeedWithCall, FeedingCall, by-feed, by-feed-with, CloseCall, Given, by-opening, by-feeding}
+use Rattle.histories.specs.Given.{OpenCall, FeedingCall, by-feed, by-feed-with, CloseCall, Given, by-opening, by-feeding}
 
 -- What each call gave, by its contract
 

@@ -6,7 +6,7 @@ use mathlib.Core.Bool.{Bool, true, false}
 use mathlib.Core.List.{List, _∷_, _++_}
 use mathlib.Core.Logic.{_⊎_, inl, inr}
 use lib.Dec.{eqb}
-use lib.ListN.{length, drop}
+use lib.ListN.{drop}
 use Rattle.exact.specs.Text.{text}
 use Rattle.exact.specs.Choice.{pick}
 use Rattle.line_forms.specs.Bytes.{past, standsAt, after, runOf, same, allWithin}

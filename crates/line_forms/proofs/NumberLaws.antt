@@ -1,5 +1,5 @@
 -- Laws of numbers in a line: a D or S that is written is read as it, and only that.
-use Prim.Native.Nat.{ℕ, zero, _+_, _≤_, _<_}
+use Prim.Native.Nat.{ℕ, _+_, _≤_, _<_}
 use native.Mathlib.Nat.{add-zero}
 use native.Mathlib.Numerals.{add-one}
 use native.Mathlib.Omega.{arith}

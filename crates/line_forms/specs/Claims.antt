@@ -17,6 +17,16 @@ use Rattle.line_forms.specs.declared.Line.the-variants.{Asset as AssetLi
 use Rattle.line_forms.specs.declared.HeaderLine.{HeaderLine}
 use Rattle.line_forms.specs.declared.HeaderLine.the-variants.{Header as HeaderRead, Refusal as HeaderRefusal}
 
+-- s is the bytes of data c
+pub record Shows (s : List ℕ) (c : Content) : Type 0 where
+  pub writable : Writable c
+  pub bytes : s ≡ bytesOf c
+
+-- and its numbers are in range
+pub record ShowsInRange (s : List ℕ) (c : Content) : Type 0 where
+  pub shows : Shows s c
+  pub in-range : inRange c ≡ true
+
 -- data of a form other than the header's
 abbrev pub AfterHeader : Content → Type 0
 AfterHeader (header h) = ⊥

@@ -1,10 +1,9 @@
 -- One line of every form as text, as 01, "A book, line by line", shows the forms.
 -- A word that is misspelt alike in the definitions and in the code is seen here.
 use mathlib.Core.Bool.{true, false}
-use mathlib.Core.Path.{_≡_}
 use Rattle.exact.specs.Text.{text}
 use Rattle.loan_charge.specs.declared.Score.the-variants.{Scored, Unscored}
-use Rattle.line_forms.specs.Contents.{bytesOf}
+use Rattle.line_forms.specs.Claims.{ShowsInRange}
 use Rattle.line_forms.specs.declared.Class.the-variants.{Home, Multi}
 use Rattle.line_forms.specs.declared.Kind.the-variants.{Rate, Float, Fx, Equity as EquityKind, Metal, Other}
 use Rattle.line_forms.specs.declared.Item.the-variants.{Claims, Lossc, Stated, Equity as EquityItem, Aoci, B, C}
@@ -13,68 +12,68 @@ use Rattle.line_forms.specs.declared.Content.the-variants.{Asset as asse
 
 pub record LineTexts : Type 0 where
   pub fresh :
-      bytesOf (header (record { loans = 20; unscored = 1; aged = false; held = 300 })) ≡
-      text "(book (loans 20) (unscored 1) (scores fresh) (held 300))"
+      ShowsInRange (text "(book (loans 20) (unscored 1) (scores fresh) (held 300))")
+      (header (record { loans = 20; unscored = 1; aged = false; held = 300 }))
   pub aged :
-      bytesOf (header (record { loans = 1000000; unscored = 0; aged = true; held = 0 })) ≡
-      text "(book (loans 1000000) (unscored 0) (scores aged) (held 0))"
+      ShowsInRange (text "(book (loans 1000000) (unscored 0) (scores aged) (held 0))")
+      (header (record { loans = 1000000; unscored = 0; aged = true; held = 0 }))
   pub scored :
-      bytesOf (loan (record { balance = 1234567; value = 7654321; amortization = 186; term = 60; score = Scored 719 13; supplement = 1 })) ≡
-      text "(loan (bal 1234567) (val 7654321) (amort 186) (term 60) (score 719 13) (sup 1))"
+      ShowsInRange (text "(loan (bal 1234567) (val 7654321) (amort 186) (term 60) (score 719 13) (sup 1))")
+      (loan (record { balance = 1234567; value = 7654321; amortization = 186; term = 60; score = Scored 719 13; supplement = 1 }))
   pub unscored :
-      bytesOf (loan (record { balance = 9; value = 80; amortization = 7; term = 61; score = Unscored; supplement = 0 })) ≡
-      text "(loan (bal 9) (val 80) (amort 7) (term 61) (score none) (sup 0))"
+      ShowsInRange (text "(loan (bal 9) (val 80) (amort 7) (term 61) (score none) (sup 0))")
+      (loan (record { balance = 9; value = 80; amortization = 7; term = 61; score = Unscored; supplement = 0 }))
   pub home :
-      bytesOf (policy (record { class = Home; premium = 5000; term = 120; completed = 3 })) ≡
-      text "(policy (class home) (prem 5000) (term 120) (done 3))"
+      ShowsInRange (text "(policy (class home) (prem 5000) (term 120) (done 3))")
+      (policy (record { class = Home; premium = 5000; term = 120; completed = 3 }))
   pub multi :
-      bytesOf (policy (record { class = Multi; premium = 1000000; term = 300; completed = 5 })) ≡
-      text "(policy (class multi) (prem 1000000) (term 300) (done 5))"
+      ShowsInRange (text "(policy (class multi) (prem 1000000) (term 300) (done 5))")
+      (policy (record { class = Multi; premium = 1000000; term = 300; completed = 5 }))
   pub rate :
-      bytesOf (derivative (record { kind = Rate; cost = record { plus = 12; minus = 0 }; notional = 400; months = 60; payments = 2; factor = 25 })) ≡
-      text "(deriv (kind rate) (cost 12) (notional 400) (months 60) (pays 2) (factor 25))"
+      ShowsInRange (text "(deriv (kind rate) (cost 12) (notional 400) (months 60) (pays 2) (factor 25))")
+      (derivative (record { kind = Rate; cost = record { plus = 12; minus = 0 }; notional = 400; months = 60; payments = 2; factor = 25 }))
   pub float :
-      bytesOf (derivative (record { kind = Float; cost = record { plus = 0; minus = 0 }; notional = 400; months = 60; payments = 2; factor = 25 })) ≡
-      text "(deriv (kind float) (cost 0) (notional 400) (months 60) (pays 2) (factor 25))"
+      ShowsInRange (text "(deriv (kind float) (cost 0) (notional 400) (months 60) (pays 2) (factor 25))")
+      (derivative (record { kind = Float; cost = record { plus = 0; minus = 0 }; notional = 400; months = 60; payments = 2; factor = 25 }))
   pub fx :
-      bytesOf (derivative (record { kind = Fx; cost = record { plus = 0; minus = 7 }; notional = 400; months = 60; payments = 2; factor = 25 })) ≡
-      text "(deriv (kind fx) (cost -7) (notional 400) (months 60) (pays 2) (factor 25))"
+      ShowsInRange (text "(deriv (kind fx) (cost -7) (notional 400) (months 60) (pays 2) (factor 25))")
+      (derivative (record { kind = Fx; cost = record { plus = 0; minus = 7 }; notional = 400; months = 60; payments = 2; factor = 25 }))
   pub equity-kind :
-      bytesOf (derivative (record { kind = EquityKind; cost = record { plus = 90; minus = 0 }; notional = 400; months = 60; payments = 2; factor = 25 })) ≡
-      text "(deriv (kind equity) (cost 90) (notional 400) (months 60) (pays 2) (factor 25))"
+      ShowsInRange (text "(deriv (kind equity) (cost 90) (notional 400) (months 60) (pays 2) (factor 25))")
+      (derivative (record { kind = EquityKind; cost = record { plus = 90; minus = 0 }; notional = 400; months = 60; payments = 2; factor = 25 }))
   pub metal :
-      bytesOf (derivative (record { kind = Metal; cost = record { plus = 0; minus = 800 }; notional = 400; months = 60; payments = 2; factor = 25 })) ≡
-      text "(deriv (kind metal) (cost -800) (notional 400) (months 60) (pays 2) (factor 25))"
+      ShowsInRange (text "(deriv (kind metal) (cost -800) (notional 400) (months 60) (pays 2) (factor 25))")
+      (derivative (record { kind = Metal; cost = record { plus = 0; minus = 800 }; notional = 400; months = 60; payments = 2; factor = 25 }))
   pub other :
-      bytesOf (derivative (record { kind = Other; cost = record { plus = 1; minus = 0 }; notional = 400; months = 60; payments = 2; factor = 25 })) ≡
-      text "(deriv (kind other) (cost 1) (notional 400) (months 60) (pays 2) (factor 25))"
+      ShowsInRange (text "(deriv (kind other) (cost 1) (notional 400) (months 60) (pays 2) (factor 25))")
+      (derivative (record { kind = Other; cost = record { plus = 1; minus = 0 }; notional = 400; months = 60; payments = 2; factor = 25 }))
   pub asset :
-      bytesOf (asset (record { amount = 100000; factor = 25 })) ≡
-      text "(asset (amount 100000) (factor 25))"
+      ShowsInRange (text "(asset (amount 100000) (factor 25))")
+      (asset (record { amount = 100000; factor = 25 }))
   pub claims :
-      bytesOf (amount (record { item = Claims; amount = record { plus = 1001; minus = 0 } })) ≡
-      text "(claims 1001)"
+      ShowsInRange (text "(claims 1001)")
+      (amount (record { item = Claims; amount = record { plus = 1001; minus = 0 } }))
   pub lossc :
-      bytesOf (amount (record { item = Lossc; amount = record { plus = 0; minus = 0 } })) ≡
-      text "(lossc 0)"
+      ShowsInRange (text "(lossc 0)")
+      (amount (record { item = Lossc; amount = record { plus = 0; minus = 0 } }))
   pub stated :
-      bytesOf (amount (record { item = Stated; amount = record { plus = 30; minus = 0 } })) ≡
-      text "(stated 30)"
+      ShowsInRange (text "(stated 30)")
+      (amount (record { item = Stated; amount = record { plus = 30; minus = 0 } }))
   pub equity :
-      bytesOf (amount (record { item = EquityItem; amount = record { plus = 1000; minus = 0 } })) ≡
-      text "(equity 1000)"
+      ShowsInRange (text "(equity 1000)")
+      (amount (record { item = EquityItem; amount = record { plus = 1000; minus = 0 } }))
   pub equity-below :
-      bytesOf (amount (record { item = EquityItem; amount = record { plus = 0; minus = 1000 } })) ≡
-      text "(equity -1000)"
+      ShowsInRange (text "(equity -1000)")
+      (amount (record { item = EquityItem; amount = record { plus = 0; minus = 1000 } }))
   pub aoci :
-      bytesOf (amount (record { item = Aoci; amount = record { plus = 0; minus = 45 } })) ≡
-      text "(aoci -45)"
+      ShowsInRange (text "(aoci -45)")
+      (amount (record { item = Aoci; amount = record { plus = 0; minus = 45 } }))
   pub aoci-zero :
-      bytesOf (amount (record { item = Aoci; amount = record { plus = 0; minus = 0 } })) ≡
-      text "(aoci 0)"
+      ShowsInRange (text "(aoci 0)")
+      (amount (record { item = Aoci; amount = record { plus = 0; minus = 0 } }))
   pub b :
-      bytesOf (amount (record { item = B; amount = record { plus = 500; minus = 0 } })) ≡
-      text "(b 500)"
+      ShowsInRange (text "(b 500)")
+      (amount (record { item = B; amount = record { plus = 500; minus = 0 } }))
   pub c :
-      bytesOf (amount (record { item = C; amount = record { plus = 100; minus = 0 } })) ≡
-      text "(c 100)"
+      ShowsInRange (text "(c 100)")
+      (amount (record { item = C; amount = record { plus = 100; minus = 0 } }))

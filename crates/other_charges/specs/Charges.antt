@@ -1,5 +1,5 @@
 -- The charges of what is no home loan (document 01, "The rest, and closing"), exact, in cents.
-use Prim.Native.Nat.{ℕ, _*_}
+use Prim.Native.Nat.{ℕ}
 use mathlib.Core.List.{List, [], _∷_}
 use Rattle.line_forms.specs.declared.Kind.{Kind}
 use Rattle.line_forms.specs.declared.Kind.the-variants.{Rate, Float, Fx, Equity, Metal, Other}

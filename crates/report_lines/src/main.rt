@@ -1,7 +1,6 @@
 // Writes five report lines one after the other, each to what remains of a buffer, then a refusal, and prints them.
 use fixed_point::Signed;
 use libc::STDOUT_FILENO;
-ghost use mathlib.Core.List.{_++_};
 ghost use Prim.Native.Nat.{_≤_};
 ghost use lib.ListN.{length};
 ghost use Rattle.report.specs.Line.{Written};

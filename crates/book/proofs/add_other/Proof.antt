@@ -3,7 +3,6 @@ use lib.Dec.{leb}
 use mathlib.Core.Path.{refl}
 use Rattle.book_model.specs.Accepted.{mostOther}
 use Rattle.book.proofs.Answers.{refused-with, taken-with, other-asks}
-use borrow.Author.Needs.{needs}
 use Rattle.book.proofs.add_other.Statement.{statement}
 use Rattle.book.proofs.add_other.Tie as tie
 

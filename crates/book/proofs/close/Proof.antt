@@ -1,5 +1,4 @@
-use denote.Ref.{now}
-use Rattle.book_model.specs.Calls.{reportSize, reportOf}
+use Rattle.book_model.specs.Calls.{reportSize}
 use Rattle.book_model.proofs.Closings.{refused-6, refused-9, written}
 use borrow.Author.Needs.{needs}
 use Rattle.book.proofs.close.Statement.{statement}

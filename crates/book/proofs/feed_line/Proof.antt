@@ -3,7 +3,7 @@ use mathlib.Core.Path.{refl, subst}
 use Rattle.line_forms.specs.declared.Line.{Line}
 use Rattle.line_forms.specs.declared.Line.the-variants.{Policy as PolicyLine, Derivative as DerivativeLine, Asset as AssetLine, Amount as AmountLine}
 use Rattle.line_forms.specs.Claims.{lineContent}
-use Rattle.book_model.specs.Calls.{State, stateAt}
+use Rattle.book_model.specs.Calls.{stateAt}
 use Rattle.book_model.specs.LineKinds.{contentKind}
 use Rattle.book_model.specs.Ranges.{Ranged, PolicyRanges, AmountRanges}
 use Rattle.book_model.specs.Share.{share}

@@ -1,5 +1,4 @@
 -- `put_tail` meets its contract.
-use Prim.Native.Nat.{_-_}
 use native.Mathlib.Omega.{arith}
 use borrow.Author.Needs.{needs}
 use Rattle.report.proofs.Onto.{nothing-written, written-then, written-more}

@@ -1,6 +1,6 @@
 -- `answered` meets its contract.
 use borrow.Author.Tests.{eq-eqb, ne-eqb}
-use mathlib.Core.Path.{_≡_, refl}
+use mathlib.Core.Path.{refl}
 use borrow.Author.Needs.{needs}
 use Rattle.driver.proofs.answered.Statement.{statement}
 use Rattle.driver.proofs.answered.Tie as tie

@@ -1,13 +1,12 @@
 -- `finish` meets its contract.
 use denote.Ref.{now}
-use mathlib.Core.Path.{_≡_, sym, ap, _∙_, subst}
+use mathlib.Core.Path.{_≡_}
 use native.Mathlib.Omega.{arith}
 use lib.ListN.{length, take}
 use lib.Seq.{length-take-le}
 use borrow.Author.Needs.{needs}
-use Rattle.report.specs.Line.{Written}
-use Rattle.driver.specs.Printed.{printedFor, endedWith}
-use Rattle.driver.specs.Reading.{Stage, stageAt, readingOf}
+use Rattle.driver.specs.Printed.{endedWith}
+use Rattle.driver.specs.Reading.{stageAt, readingOf}
 use Rattle.driver.proofs.Answers.{ended-line}
 use Rattle.driver.proofs.Runs.{prints}
 use Rattle.driver.proofs.finish.Statement.{statement}

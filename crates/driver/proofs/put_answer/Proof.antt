@@ -1,6 +1,5 @@
 -- `put_answer` meets its contract.
 use denote.Ref.{now}
-use mathlib.Core.Path.{_≡_}
 use native.Mathlib.Omega.{arith}
 use lib.ListN.{length}
 use borrow.Author.Needs.{needs}

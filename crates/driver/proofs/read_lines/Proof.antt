@@ -1,5 +1,4 @@
 -- `read_lines` meets its contract.
-use lib.ListN.{length}
 use borrow.Author.Needs.{needs}
 use Rattle.driver.proofs.Runs.{lines-read}
 use Rattle.driver.proofs.read_lines.Statement.{statement}

@@ -1,7 +1,7 @@
 -- `step` meets its contract.
 use denote.Ref.{now}
 use native.Mathlib.Omega.{arith}
-use lib.ListN.{length, length-drop, length-take}
+use lib.ListN.{length-drop, length-take}
 use borrow.Author.Needs.{needs}
 use Rattle.driver.proofs.Runs.{none-held, held-more, all-held, line-and-more}
 use Rattle.driver.proofs.step.Statement.{statement}

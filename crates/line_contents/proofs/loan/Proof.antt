@@ -1,10 +1,9 @@
 -- `loan` meets its contract.
 use native.Mathlib.Omega.{arith}
-use Rattle.exact.specs.Text.{text}
 use Rattle.line_forms.specs.Contents.{loanForm}
 use Rattle.line_forms.specs.Readings.{loanWith, loanHeld}
 use Rattle.line_forms.specs.declared.Content.the-variants.{Loan, NoForm}
-use Rattle.line_forms.proofs.Bytes.{told-true, told-false, stands-fits}
+use Rattle.line_forms.proofs.Bytes.{told-true, told-false}
 use Rattle.line_forms.proofs.FormLaws.{later}
 use Rattle.line_forms.proofs.ContentLaws.{proper-loan}
 use Rattle.line_forms.proofs.Readers.{Reading, Reached, begun, over, last, holds, holds-not, stopped, room}

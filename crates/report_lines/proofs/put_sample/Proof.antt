@@ -1,5 +1,4 @@
 -- `put_sample` meets its contract: five lines chained.
-use Prim.Native.Nat.{_-_}
 use borrow.Author.Needs.{needs}
 use Rattle.report.proofs.Onto.{nothing-written, written-then, written-more}
 use Rattle.report_lines.proofs.put_sample.Statement.{statement}
