@@ -8,6 +8,7 @@ Pages are README.md, all of docs/, and the README.md of other folders. What is c
   definitions or proofs, comments left out), in a script or a book of this repository, or one of KNOWN below.
 - a name in a file: of "`a`, `b` in `crates/..`" and of "`crates/..`: `a`, `b`" both a and b must stand in that file.
 - README.md names each crate of crates.txt, and in its picture of the layers a crate stands above all that it is built on.
+- docs/PROOFS.md, "A reading order": each file's number of lines, each step's sum and the sum of all.
 
 The last line is 'N passed, M failed'.
 """
@@ -130,6 +131,32 @@ def readme_problems():
     return sum(said.values()), [what for what, well in said.items() if not well]
 
 
+def reading_order_problems():
+    """The reading order's numbers of lines that are not those of the files: as (right, wrong)."""
+    text = (ROOT / "docs" / "PROOFS.md").read_text(encoding="utf-8")
+    right, wrong, together = 0, [], 0
+
+    def hold(what, said, found):
+        nonlocal right
+        if int(said.replace(",", "")) == found:
+            right += 1
+        else:
+            wrong.append(f"docs/PROOFS.md: {what} has {found} lines and is said to have {said}")
+
+    for step, read, total in re.findall(r"(?m)^\| (\d) \| (.*) \| ([\d,]+) \|$", text):
+        folder = re.search(r" in `(crates/[^`]*)`", read)
+        lines = 0
+        for name, said in re.findall(r"`([^`]*)` \((\d+)\)", read):
+            path = ROOT / name if name.startswith("crates/") else ROOT / folder[1] / name
+            found = len(path.read_text(encoding="utf-8").splitlines())
+            hold(name, said, found)
+            lines += found
+        hold(f"step {step}", total, lines)
+        together += lines
+    hold("the reading order", re.search(r"Together ([\d,]+) lines", text)[1], together)
+    return right, wrong
+
+
 def main():
     known = names()
     passed = failed = 0
@@ -140,10 +167,10 @@ def main():
         failed += len(wrong)
         for what in wrong:
             print(f"{page.relative_to(ROOT)}: {what}")
-    right, wrong = readme_problems()
-    passed += right
-    failed += len(wrong)
-    print("".join(what + "\n" for what in sorted(wrong)), end="")
+    for right, wrong in (readme_problems(), reading_order_problems()):
+        passed += right
+        failed += len(wrong)
+        print("".join(what + "\n" for what in sorted(wrong)), end="")
     print(f"{passed} passed, {failed} failed")
     sys.exit(1 if failed or not passed else 0)
 
