@@ -10,9 +10,12 @@ use native.Mathlib.Omega.{arith}
 use Rattle.exact.proofs.Enclosure.{below-tail}
 use Rattle.exact.proofs.Sums.{num, den, tailed, tail}
 use Rattle.exponential.specs.Table.{exponentials, entry}
-use Rattle.exponential.specs.Exponential.{testOrder}
 use Rattle.exponential.proofs.Rule.{Least, Rule}
 use Rattle.exponential.proofs.Every.{both, both-left, both-right, every, at}
+
+-- The order at which the rule is tested: the smallest that decides every entry.
+abbrev testOrder : ℕ
+testOrder = 46
 
 test : ℕ → ℕ → Bool
 test k t = both (leb (2 ^ 40 * den 64 testOrder) (t * num k 64 testOrder)) (ltb ((t - 1) * tailed k 64 testOrder) (2 ^ 40 * den 64 (suc testOrder)))

@@ -30,7 +30,3 @@ expWithin x = lowered (entry (x / 2 ^ 32)) (decrease (x % 2 ^ 32))
 -- exp(-y): at an entry's exponent the entry, from 24 on the last entry. No other crate unfolds this: its laws are those of proofs/Laws.antt.
 unfoldable pub expUpper : ℕ → ℕ
 expUpper y = expWithin (min y (1536 * 2 ^ 32))
-
--- The order at which the rule is tested: the smallest that decides every entry.
-abbrev pub testOrder : ℕ
-testOrder = 46
