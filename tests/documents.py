@@ -8,7 +8,7 @@ Pages are README.md, all of docs/, and the README.md of other folders. What is c
   definitions or proofs, comments left out), in a script or a book of this repository, or one of KNOWN below.
 - a name in a file: of "`a`, `b` in `crates/..`" and of "`crates/..`: `a`, `b`" both a and b must stand in that file.
 - README.md names each crate of crates.txt, and in its picture of the layers a crate stands above all that it is built on.
-- docs/PROOFS.md, "A reading order": each file's number of lines, each step's sum and the sum of all.
+- docs/PROOFS.md, "A reading order": each file's number of lines, each step's sum and the sum of all; the lines of code and of proofs.
 
 The last line is 'N passed, M failed'.
 """
@@ -154,6 +154,9 @@ def reading_order_problems():
         hold(f"step {step}", total, lines)
         together += lines
     hold("the reading order", re.search(r"Together ([\d,]+) lines", text)[1], together)
+    code, proofs = re.search(r"The code has ([\d,]+) lines, the proofs ([\d,]+)", text).groups()
+    for what, said, files in (("all code", code, "src/**/*.rt"), ("all proof", proofs, "proofs/**/*.antt")):
+        hold(what, said, sum(len(path.read_text(encoding="utf-8").splitlines()) for path in ROOT.glob(f"crates/*/{files}")))
     return right, wrong
 
 

@@ -22,8 +22,7 @@ use Rattle.figures.proofs.FiguresLaws.{figures-bounded}
 use Rattle.book_report.proofs.Lengths.{report-most}
 use Rattle.book_model.specs.declared.Book.{Book}
 use Rattle.book_model.specs.Accepted.{mostOther, loanBeyond, refusalFor}
-use Rattle.book_model.specs.Calls.{State, stateAt, openingFor, refusalIn, bookAfter, feedingLine, tooFew, closingWith}
-use Rattle.book_model.specs.Calls.{reportSize, reportOf, SoundBook}
+use Rattle.book_model.specs.Calls.{State, stateAt, openingFor, refusalIn, bookAfter, feedingLine, tooFew, closingWith, reportSize, reportOf, SoundBook}
 use Rattle.book_model.specs.Demand1.{refusedState, Demand1}
 use Rattle.book_model.specs.LineKinds.{contentKind}
 use Rattle.book_model.proofs.Closings.{untouched}

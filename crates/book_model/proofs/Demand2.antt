@@ -27,8 +27,7 @@ use Rattle.line_forms.proofs.HeaderLaws.{header-reading, header-accepted, heade
 use Rattle.figures.specs.declared.Counts.{Counts}
 use Rattle.book_model.specs.Accepted.{Accepted, countsIn, mostOther, loanBeyond, refusalFor, refusalOf}
 use Rattle.book_model.specs.Calls.{Answer, emptyState, openingFor, opening, closingRefusal, reportSize}
-use Rattle.book_model.specs.Demand2.{OtherForm, Counted, OpeningAnswer, LoanFits, LoanBeyond, Fits, FeedingAnswer, ClosingAnswer}
-use Rattle.book_model.specs.Demand2.{Demand2}
+use Rattle.book_model.specs.Demand2.{OtherForm, Counted, OpeningAnswer, LoanFits, LoanBeyond, Fits, FeedingAnswer, ClosingAnswer, Demand2}
 use Rattle.book_model.specs.History.{opened, allFed, termsOf, acceptedOf}
 use Rattle.book_model.specs.LineKinds.{LineKind, a-loan, another, refused, contentKind, kindOf, kindCounts, unscoredCount}
 use Rattle.book_model.specs.Terms.{Terms, termsWith}

@@ -24,8 +24,7 @@ use Rattle.figures.proofs.SumsLaws.{plus-bounded, none-bounded, plus-none}
 use Rattle.book_model.specs.declared.Book.{Book}
 use Rattle.book_model.specs.declared.Fed.{Fed}
 use Rattle.book_model.specs.Accepted.{mostOther, loanBeyond, refusalFor}
-use Rattle.book_model.specs.Calls.{State, termsIn, fedOf, zeroHeader, emptyBook, openingFor, refusalIn, bookAfter, feedingLine, SoundBook}
-use Rattle.book_model.specs.Calls.{Sound}
+use Rattle.book_model.specs.Calls.{State, termsIn, fedOf, zeroHeader, emptyBook, openingFor, refusalIn, bookAfter, feedingLine, SoundBook, Sound}
 use Rattle.book_model.specs.LineKinds.{LineKind, a-loan, another, refused, contentKind, kindOf, kindCounts, unscoredCount}
 use Rattle.book_model.specs.Ranges.{Ranged, HeaderRanges, RangedHeader}
 use Rattle.book_model.specs.Share.{share}

@@ -17,8 +17,7 @@ use Rattle.line_forms.specs.declared.Policy.{Policy}
 use Rattle.line_forms.specs.declared.Derivative.{Derivative}
 use Rattle.line_forms.specs.declared.Asset.{Asset}
 use Rattle.line_forms.specs.declared.Amount.{Amount}
-use Rattle.line_forms.specs.declared.Content.the-variants.{Loan as loan, Policy as policy, Derivative as derivative}
-use Rattle.line_forms.specs.declared.Content.the-variants.{Asset as asset, Amount as amount}
+use Rattle.line_forms.specs.declared.Content.the-variants.{Loan as loan, Policy as policy, Derivative as derivative, Asset as asset, Amount as amount}
 use Rattle.line_forms.specs.declared.Line.the-variants.{Loan as LoanLine, Policy as PolicyLine, Derivative as DerivativeLine}
 use Rattle.line_forms.specs.declared.Line.the-variants.{Asset as AssetLine, Amount as AmountLine}
 use Rattle.line_forms.specs.declared.HeaderLine.the-variants.{Header as HeaderRead}
