@@ -8,9 +8,9 @@ use lib.ListN.{length, take, drop, length-append}
 use Rattle.fixed_point.specs.declared.Signed.{Signed}
 use Rattle.exact.specs.Text.{text}
 use Rattle.report.specs.Decimal.{signed}
-use Rattle.report.specs.Line.{spaced, line, Written}
+use Rattle.report.specs.Line.{spaced, line, Written, Added}
 use Rattle.report.proofs.Decimal.{signed-length}
-use Rattle.report.proofs.Onto.{written-more}
+use Rattle.report.proofs.Onto.{written-more, added, written-then}
 
 -- a line's text before its end
 abbrev begun : List ℕ → List (List ℕ) → List ℕ
@@ -29,17 +29,26 @@ module _ {old name xs : List ℕ} {a : ℕ} where
   pub begin : Written old (text "(" ++ name) a xs → Begun old name [] a xs
   begin w = record { so-far = subst (λ (t : List ℕ). Written old (text "(" ++ t) a xs) (sym (append-nil name)) w }
 
+  -- a field more, added after the a bytes
+  pub add-field :
+      {fields : List (List ℕ)} {w ys : List ℕ} {r : ℕ} →
+      Begun old name fields a xs →
+      Added xs a (text " " ++ w) r ys →
+      Begun old name (fields ++ (w ∷ [])) r ys
+  add-field {fields} {w} {ys} {r} b p = record {
+    so-far = subst (λ (t : List ℕ). Written old t r ys)
+        (ap (λ (t : List ℕ). text "(" ++ t) (append-assoc name (spaced fields) (text " " ++ w) ∙ ap (λ (t : List ℕ). name ++ t) (sym (spaced-more fields w))))
+        (written-then (b .so-far) p);
+  }
+
   module _ {ys : List ℕ} {r : ℕ} {fields : List (List ℕ)} where
+    -- the same of a writer that is lent what remains
     pub field :
         {w : List ℕ} →
         Begun old name fields a xs →
         Written (take (length xs - a) (drop a xs)) (text " " ++ w) r ys →
         Begun old name (fields ++ (w ∷ [])) (a + r) (take a xs ++ (ys ++ drop (length xs - a) (drop a xs)))
-    field {w} b p = record {
-      so-far = subst (λ (t : List ℕ). Written old t (a + r) (take a xs ++ (ys ++ drop (length xs - a) (drop a xs))))
-          (ap (λ (t : List ℕ). text "(" ++ t) (append-assoc name (spaced fields) (text " " ++ w) ∙ ap (λ (t : List ℕ). name ++ t) (sym (spaced-more fields w))))
-          (written-more (b .so-far) p);
-    }
+    field b p = add-field b (added p)
 
     pub end :
         Begun old name fields a xs →

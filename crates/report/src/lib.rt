@@ -1,5 +1,5 @@
-// Lines of decimal numbers, written into a buffer that the caller lends. Each function but `add_line` writes from the buffer's start, tells how
-// many bytes it wrote, and leaves the bytes after them; a line's pieces, and a report's lines, are each written to what remains of the buffer.
+// Lines of decimal numbers, written into a buffer that the caller lends. A function `put_..` writes from the buffer's start, tells how many bytes it
+// wrote, and leaves the bytes after them; an `add_..` goes on after the first `at` bytes, and lends what remains of the buffer to the other.
 use fixed_point::Signed;
 ghost use mathlib.Core.List.{[], _∷_, _++_};
 ghost use Prim.Native.Nat.{_+_, _≤_};
@@ -8,7 +8,7 @@ ghost use Rattle.exact.specs.Text.{text};
 ghost use Rattle.report.specs.Decimal.{digits, signed};
 ghost use Rattle.report.specs.Line.{line, refusalLine, Written, Added};
 
-fn put_bytes(out: &mut [u8], s: &[u8]) -> usize
+pub fn put_bytes(out: &mut [u8], s: &[u8]) -> usize
     requires { ⌜ length (now s) ≤ length (now out) ⌝ }
     ensures { λ r. ⌜ Written (now (out .entry)) (now (s .entry)) r (now (out .exit)) ⌝ }
 {
@@ -72,6 +72,24 @@ fn put_value(out: &mut [u8], value: Signed) -> usize
     1 + put_signed(&mut out[1..], value)
 }
 
+// A space and a number after the first `at` bytes.
+pub fn add_number(out: &mut [u8], at: usize, n: u64) -> usize
+    requires { ⌜ at + 21 ≤ length (now out) ⌝ }
+    ensures number { λ r. ⌜ Added (now (out .entry)) at (text " " ++ digits n) r (now (out .exit)) ⌝ }
+    ensures short { λ r. ⌜ r ≤ at + 21 ⌝ }
+{
+    at + put_marked_number(&mut out[at..], b' ', n)
+}
+
+// A space and a number with its sign after the first `at` bytes.
+pub fn add_value(out: &mut [u8], at: usize, value: Signed) -> usize
+    requires { ⌜ at + 22 ≤ length (now out) ⌝ }
+    ensures value { λ r. ⌜ Added (now (out .entry)) at (text " " ++ signed value) r (now (out .exit)) ⌝ }
+    ensures short { λ r. ⌜ r ≤ at + 22 ⌝ }
+{
+    at + put_value(&mut out[at..], value)
+}
+
 // A line with a name and a number, as `(rest 451)`.
 pub fn put_line(out: &mut [u8], name: &[u8], value: Signed) -> usize
     requires { ⌜ length (line (now name) (signed value ∷ [])) ≤ length (now out) ⌝ }
@@ -82,7 +100,7 @@ pub fn put_line(out: &mut [u8], name: &[u8], value: Signed) -> usize
     at + put_bytes(&mut out[at..], b")\n")
 }
 
-// The same line after the first `at` bytes: what remains of the buffer is lent to `put_line`.
+// The same line after the first `at` bytes.
 pub fn add_line(out: &mut [u8], at: usize, name: &[u8], value: Signed) -> usize
     requires { ⌜ at + length (now name) + 25 ≤ length (now out) ⌝ }
     ensures line { λ r. ⌜ Added (now (out .entry)) at (line (now (name .entry)) (signed value ∷ [])) r (now (out .exit)) ⌝ }
