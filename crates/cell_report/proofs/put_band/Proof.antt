@@ -7,12 +7,13 @@ use Rattle.cell_report.proofs.put_band.Tie as tie
 
 returns : tie.Need-returns
 returns c =
-    let one = c .before .before .before .before .before .before .before .before .before .before .before .before .before .before .before .before .before .before .add-cell .ensures .0 in
-    let two = c .before .before .before .before .before .before .before .before .before .before .before .before .before .before .add-cell2 .ensures .0 in
-    let three = c .before .before .before .before .before .before .before .before .before .before .add-cell3 .ensures .0 in
-    let four = c .before .before .before .before .before .before .add-cell4 .ensures .0 in
-    let five = c .before .before .add-cell5 .ensures .0 in (
-      written-then (written-then (written-then (written-then (written-then (nothing-written (c .before .before .before .before .before .before .before .before .before .before .before .before .before .before .before .before .before .before .before .before .before .args .out .now)) one) two) three) four) five,
+    let five = c .before .before in
+    let four = five .before .before .before .before in
+    let three = four .before .before .before .before in
+    let two = three .before .before .before .before in
+    let one = two .before .before .before .before in (
+      written-then (written-then (written-then (written-then (written-then (nothing-written (one .before .before .before .args .out .now))
+          (one .add-cell .ensures .0)) (two .add-cell2 .ensures .0)) (three .add-cell3 .ensures .0)) (four .add-cell4 .ensures .0)) (five .add-cell5 .ensures .0),
       search needs,
     )
 

@@ -8,15 +8,17 @@ use Rattle.cell_report.proofs.put_cell.Tie as tie
 
 returns : tie.Need-returns
 returns c =
-    let name = c .before .before .before .before .before .before .before .before .before .before .before .before .before .before .before .before .before .before .before .before .before .before .before .before .before .before .before .put-bytes .ensures in
-    let band = c .before .before .before .before .before .before .before .before .before .before .before .before .before .before .before .before .before .before .before .before .before .before .before .add-number .ensures in
-    let ltv = c .before .before .before .before .before .before .before .before .before .before .before .before .before .before .before .before .before .before .before .add-number2 .ensures in
-    let count = c .before .before .before .before .before .before .before .before .before .before .before .before .before .before .before .add-number3 .ensures in
-    let balance = c .before .before .before .before .before .before .before .before .before .before .before .add-number4 .ensures in
-    let charge = c .before .before .before .before .before .before .before .add-value .ensures in
-    let close = c .before .before .put-bytes2 .ensures in (
-      end (add-field (add-field (add-field (add-field (add-field (begin name) (band .0)) (ltv .0)) (count .0)) (balance .0)) (charge .0)) close,
-      omega (arith, name .count, band .1, ltv .1, count .1, balance .1, charge .1, close .count),
+    let close = c .before .before in
+    let charge = close .before .before .before .before .before in
+    let balance = charge .before .before .before .before in
+    let count = balance .before .before .before .before in
+    let ltv = count .before .before .before .before in
+    let band = ltv .before .before .before .before in
+    let name = band .before .before .before .before in (
+      end (add-field (add-field (add-field (add-field (add-field (begin (name .put-bytes .ensures)) (band .add-number .ensures .0))
+          (ltv .add-number2 .ensures .0)) (count .add-number3 .ensures .0)) (balance .add-number4 .ensures .0)) (charge .add-value .ensures .0))
+          (close .put-bytes2 .ensures),
+      omega (arith, charge .add-value .ensures .1, close .put-bytes2 .ensures .count),
     )
 
 pub put-cell-spec : {M : Type 1} → statement M
