@@ -1,9 +1,10 @@
 -- What a call answers, from what it read and what it called: one lemma for each way that the calls' proofs go.
 -- Assumes nothing.
-use mathlib.Core.Path.{_≡_, refl, sym, _∙_, ap, subst}
+use mathlib.Core.Path.{_≡_, refl, sym, _∙_, ap, ap₂, subst}
 use mathlib.Core.Bool.{Bool, true, false}
 use mathlib.Core.List.{List}
-use Prim.Native.Nat.{ℕ}
+use Prim.Native.Nat.{ℕ, _≤_}
+use native.Mathlib.Omega.{arith}
 use lib.Dec.{eqb}
 use Rattle.exact.specs.Choice.{pick}
 use Rattle.loan_charge.specs.CreditFactor.{builtInRates}
@@ -18,64 +19,97 @@ use Rattle.line_forms.specs.Claims.{lineRefusal, lineContent}
 use Rattle.line_forms.specs.Readings.{lineOf, headerOf}
 use Rattle.figures.specs.declared.Sums.{Sums}
 use Rattle.figures.specs.Sums.{Bounded, InLimits, plus}
+use Rattle.cell_report.specs.CellReport.{placeOf}
 use Rattle.book_model.specs.declared.Book.{Book}
 use Rattle.book_model.specs.declared.Opened.{Opened}
 use Rattle.book_model.specs.declared.Fed.{Fed}
 use Rattle.book_model.specs.Accepted.{loanBeyond, loanRefusal, otherRefusal, refusalFor}
-use Rattle.book_model.specs.Calls.{State, stateAt, termsIn, openedOf, fedOf, zeroHeader, emptyBook, openingFor, opening, bookAfter, feedingLine}
-use Rattle.book_model.specs.Calls.{feeding, SoundBook, Sound}
+use Rattle.book_model.specs.Calls.{State, Answer, stateAt, termsIn, openedOf, fedOf, zeroHeader, emptyBook, openingFor, opening, refusalIn, bookAfter}
+use Rattle.book_model.specs.Calls.{tableWith, cellsAfter, feedingLine, feeding, SoundBook, Sound}
+use Rattle.book_model.specs.Cells.{loanBand, loanLtv, noCells, withLoan, cellsWith, CellsBounded}
 use Rattle.book_model.specs.LineKinds.{a-loan, another, contentKind, kindOf, kindCounts}
 use Rattle.book_model.specs.Ranges.{LoanRanges, Ranged}
 use Rattle.book_model.specs.Share.{share, loanShare}
 use Rattle.book_model.specs.Steps.{answerWith}
 use Rattle.book_model.specs.Terms.{under}
-use Rattle.book_model.proofs.BoundedShares.{counted}
+use Rattle.book_model.proofs.BoundedShares.{loan-bounded, counted}
+use Rattle.book_model.proofs.Cells.{bounded-wider}
 use Rattle.book_model.proofs.Feeding.{room, book-room, asks, line-bounded, fed-refused, fed-sound, opening-sound}
+use Rattle.book_model.proofs.Near.{rates-chargeable}
 use Rattle.book_model.proofs.Ranged.{ranged, ranged-header}
 
--- Opening: l is what was read of the line.
-module _ (line : List ℕ) {l : HeaderLine} (read : l ≡ headerOf line) where
-  opened-as : {r : Opened} → r ≡ openedOf (openingFor l) → (r ≡ openedOf (opening line)) × Sound (stateAt (r .book) builtInRates)
-  unfolding openingFor
+-- Opening: l is what was read of the line, and the table of cells was cleared.
+module _ (line : List ℕ) {l : HeaderLine} (read : l ≡ headerOf line) {cells : List ℕ} (cleared : cells ≡ noCells) where
+  -- what opening promises of an answer and the table
+  abbrev Promised : Opened → Type 0
+  Promised r = (r ≡ openedOf (opening line)) × ((cells ≡ opening line .state .cells) × Sound (stateAt (r .book) builtInRates cells))
+
+  opened-as : {r : Opened} → record { refusal = r .refusal; state = stateAt (r .book) builtInRates cells } ≡ openingFor l → Promised r
   opened-as {r} e =
-      let answer : r ≡ openedOf (opening line) = e ∙ ap (λ (h : HeaderLine). openedOf (openingFor h)) read in (
-        answer,
-        subst (λ (o : Opened). Sound (stateAt (o .book) builtInRates)) (sym answer)
-            (sound (headerOf line) (opening-sound (headerOf line) (ranged-header line))),
+      let answer : record { refusal = r .refusal; state = stateAt (r .book) builtInRates cells } ≡ opening line = e ∙ ap openingFor read in (
+        ap openedOf answer,
+        (
+          ap (λ (a : Answer). a .state .cells) answer,
+          subst (λ (a : Answer). Sound (a .state)) (sym answer) (opening-sound (headerOf line) (ranged-header line)),
+        ),
       )
-    where
-      sound : (h : HeaderLine) → Sound (openingFor h .state) → Sound (stateAt (openingFor h .state .book) builtInRates)
-      sound (HeaderRead h) s = s
-      sound (HeaderRefusal n) s = s
 
-  pub opened : (h : Header) → l ≡ HeaderRead h → {b : Book} → b ≡ emptyBook h → (record { refusal = 0; book = b } ≡ openedOf (opening line))
-      × Sound (stateAt b builtInRates)
+  pub opened : (h : Header) → l ≡ HeaderRead h → {b : Book} → b ≡ emptyBook h → Promised (record { refusal = 0; book = b })
   unfolding openingFor
-  opened h e f = opened-as ((λ i. record { refusal = 0; book = f i }) ∙ ap (λ (x : HeaderLine). openedOf (openingFor x)) (sym e))
+  opened h e f = opened-as ((λ i. record { refusal = 0; state = stateAt (f i) builtInRates (cleared i) }) ∙ ap openingFor (sym e))
 
-  pub not-opened : (n : ℕ) → l ≡ HeaderRefusal n → {h : Header} → h ≡ zeroHeader → {b : Book} → b ≡ emptyBook h →
-      (record { refusal = n; book = b } ≡ openedOf (opening line)) × Sound (stateAt b builtInRates)
+  pub not-opened : (n : ℕ) → l ≡ HeaderRefusal n → {h : Header} → h ≡ zeroHeader → {b : Book} → b ≡ emptyBook h → Promised (record { refusal = n; book = b })
   unfolding openingFor
-  not-opened n e z f = opened-as ((λ i. record { refusal = n; book = (f ∙ ap emptyBook z) i }) ∙ ap (λ (x : HeaderLine). openedOf (openingFor x)) (sym e))
+  not-opened n e z f =
+      opened-as ((λ i. record { refusal = n; state = stateAt ((f ∙ ap emptyBook z) i) builtInRates (cleared i) }) ∙ ap openingFor (sym e))
 
 -- Feeding a line: l is what was read of it.
 module _ (s : State) (line : List ℕ) {l : Line} (read : l ≡ lineOf line) (sound : Sound s) where
-  pub fed : {r : Fed} → r ≡ fedOf (feedingLine s l) → (r ≡ fedOf (feeding s line)) × Sound (stateAt (r .book) (s .rates))
-  unfolding feedingLine
-  fed {r} e =
-      let answer : r ≡ fedOf (feeding s line) = e ∙ ap (λ (x : Line). fedOf (feedingLine s x)) read in
-      (answer, subst (λ (f : Fed). Sound (stateAt (f .book) (s .rates))) (sym answer) (fed-sound s (lineOf line) sound (ranged line)))
+  -- what feeding promises of an answer and the table
+  abbrev Promises : Fed → List ℕ → Type 0
+  Promises r cells = (r ≡ fedOf (feeding s line)) × ((cells ≡ feeding s line .state .cells) × Sound (stateAt (r .book) (s .rates) cells))
 
-  pub not-fed : (n : ℕ) → l ≡ Refusal n → (record { refusal = n; book = s .book } ≡ fedOf (feeding s line)) × Sound (stateAt (s .book) (s .rates))
-  not-fed n e = (fed-refused s n ∙ ap (λ (x : Line). fedOf (feedingLine s x)) (sym e ∙ read), sound)
+  fed-as : {r : Fed} {cells : List ℕ} → record { refusal = r .refusal; state = stateAt (r .book) (s .rates) cells } ≡ feedingLine s l → Promises r cells
+  fed-as {r} {cells} e =
+      let answer : record { refusal = r .refusal; state = stateAt (r .book) (s .rates) cells } ≡ feeding s line = e ∙ ap (feedingLine s) read in (
+        ap fedOf answer,
+        (
+          ap (λ (a : Answer). a .state .cells) answer,
+          subst (λ (a : Answer). Sound (a .state)) (sym answer) (fed-sound s (lineOf line) sound (ranged line)),
+        ),
+      )
+
+  pub fed : {r : Fed} {cells : List ℕ} → r ≡ fedOf (feedingLine s l) → cells ≡ feedingLine s l .state .cells → Promises r cells
+  unfolding feedingLine
+  fed e f = fed-as (λ i. record { refusal = e i .refusal; state = stateAt (e i .book) (s .rates) (f i) })
+
+  pub not-fed : (n : ℕ) → l ≡ Refusal n → Promises (record { refusal = n; book = s .book }) (s .cells)
+  not-fed n e = fed-as (fed-refused s n ∙ ap (feedingLine s) (sym e))
+
+-- a table of which neither case changes a place
+same-either : (test : Bool) (cells : List ℕ) → cells ≡ pick test cells cells
+same-either true cells = refl
+same-either false cells = refl
 
 -- Feeding what was read: a line l of the kind k, with its share.
 module _ (s : State) {read : Line} where
-  pub loan-fed : (l : Loan) → read ≡ LoanLine l → {r : Fed} →
+  pub loan-fed : (l : Loan) → read ≡ LoanLine l → {r : Fed} {cells : List ℕ} →
       r ≡ answerWith (loanRefusal (s .book .header) (s .book .sums .counts) (l .score)) (s .book) (loanShare (termsIn s) l) →
-      r ≡ fedOf (feedingLine s read)
-  unfolding feedingLine bookAfter refusalFor contentKind share
-  loan-fed l e k = k ∙ ap (λ (x : Line). fedOf (feedingLine s x)) (sym e)
+      cells ≡ tableWith (loanRefusal (s .book .header) (s .book .sums .counts) (l .score)) (termsIn s) (loan l) (s .cells) →
+      (r ≡ fedOf (feedingLine s read)) × (cells ≡ feedingLine s read .state .cells)
+  unfolding feedingLine bookAfter cellsAfter refusalFor contentKind share
+  loan-fed l e k m = (
+    k ∙ ap (λ (x : Line). fedOf (feedingLine s x)) (sym e),
+    m ∙ ap (λ (x : Line). feedingLine s x .state .cells) (sym e),
+  )
+
+  -- a line that leaves the table as it is
+  pub cells-stay : (l : Line) → cellsWith (termsIn s) (lineContent l) (s .cells) ≡ s .cells → read ≡ l → s .cells ≡ feedingLine s read .state .cells
+  unfolding feedingLine cellsAfter
+  cells-stay l k e =
+      same-either (eqb (refusalIn s l) 0) (s .cells)
+      ∙ ap (λ (x : List ℕ). pick (eqb (refusalIn s l) 0) x (s .cells)) (sym k)
+      ∙ ap (λ (x : Line). feedingLine s x .state .cells) (sym e)
 
   module _ (l : Line) (other : kindOf l ≡ another) (e : read ≡ l) {x : Sums} (k : x ≡ share (termsIn s) (lineContent l)) where
     pub other-asked : Sound s → Ranged (lineContent read) → SoundBook (s .book) × Bounded x × (x .counts ≡ kindCounts another)
@@ -84,12 +118,15 @@ module _ (s : State) {read : Line} where
         line-bounded (s .book .header) (h .rates) (lineContent l) (subst (λ (y : Line). Ranged (lineContent y)) e r) in
         (h .book, rw k b, ap (λ (y : Sums). y .counts) k ∙ counted (termsIn s) (lineRefusal l) (lineContent l) ∙ ap kindCounts other)
 
-    pub other-fed : {r : Fed} → r ≡ answerWith (otherRefusal (s .book .sums .counts)) (s .book) x → r ≡ fedOf (feedingLine s read)
+    pub other-fed : cellsWith (termsIn s) (lineContent l) (s .cells) ≡ s .cells → {r : Fed} →
+        r ≡ answerWith (otherRefusal (s .book .sums .counts)) (s .book) x → (r ≡ fedOf (feedingLine s read)) × (s .cells ≡ feedingLine s read .state .cells)
     unfolding feedingLine bookAfter refusalFor
-    other-fed m =
-        m ∙ ap (answerWith (otherRefusal (s .book .sums .counts)) (s .book)) k
-        ∙ ap (λ (y : ℕ). answerWith y (s .book) (share (termsIn s) (lineContent l))) (sym (ap (refusalFor (termsIn s) (s .book .sums .counts)) other))
-        ∙ ap (λ (y : Line). fedOf (feedingLine s y)) (sym e)
+    other-fed n m = (
+      m ∙ ap (answerWith (otherRefusal (s .book .sums .counts)) (s .book)) k
+          ∙ ap (λ (y : ℕ). answerWith y (s .book) (share (termsIn s) (lineContent l))) (sym (ap (refusalFor (termsIn s) (s .book .sums .counts)) other))
+          ∙ ap (λ (y : Line). fedOf (feedingLine s y)) (sym e),
+      cells-stay l n e,
+    )
 
 -- Adding a line that a test refuses with the number n, or does not.
 module _ (test : Bool) (n : ℕ) (b : Book) (x : Sums) where
@@ -101,12 +138,16 @@ module _ (test : Bool) (n : ℕ) (b : Book) (x : Sums) where
 
 -- Adding a loan, whether or not it is beyond the header's counts.
 module _ (s : State) (l : Loan) {beyond : Bool} (test : beyond ≡ loanBeyond (s .book .header) (s .book .sums .counts) (l .score)) where
-  pub loan-refused : beyond ≡ true → record {
-    refusal = 5;
-    book =
-        s .book;
-  } ≡ answerWith (loanRefusal (s .book .header) (s .book .sums .counts) (l .score)) (s .book) (loanShare (termsIn s) l)
-  loan-refused e = refused-with (loanBeyond (s .book .header) (s .book .sums .counts) (l .score)) 5 (s .book) (loanShare (termsIn s) l) refl (sym test ∙ e)
+  -- what adding a loan promises of an answer and the table
+  abbrev Adds : Fed → List ℕ → Type 0
+  Adds r cells =
+      (r ≡ answerWith (loanRefusal (s .book .header) (s .book .sums .counts) (l .score)) (s .book) (loanShare (termsIn s) l))
+      × (cells ≡ tableWith (loanRefusal (s .book .header) (s .book .sums .counts) (l .score)) (termsIn s) (loan l) (s .cells))
+
+  pub loan-refused : beyond ≡ true → Adds (record { refusal = 5; book = s .book }) (s .cells)
+  loan-refused e =
+      let f : loanBeyond (s .book .header) (s .book .sums .counts) (l .score) ≡ true = sym test ∙ e in
+      (refused-with (loanBeyond (s .book .header) (s .book .sums .counts) (l .score)) 5 (s .book) (loanShare (termsIn s) l) refl f, rw f refl)
 
   module _ (e : beyond ≡ false) {x : Sums} (k : x ≡ loanShare (termsIn s) l) where
     pub loan-asks : Sound s → LoanRanges l → Bounded (s .book .sums) × Bounded x × InLimits (plus (s .book .sums) x)
@@ -117,11 +158,27 @@ module _ (s : State) (l : Loan) {beyond : Bool} (test : beyond ≡ loanBeyond (s
         (asks (h .book) (line-bounded (s .book .header) (h .rates) (loan l) r)
         (room (termsIn s) (s .book .sums .counts) (a-loan (l .score)) (book-room (h .book)) (rw f refl)))
 
-    pub loan-taken : {r : Fed} → r ≡ answerWith 0 (s .book) x →
-        r ≡ answerWith (loanRefusal (s .book .header) (s .book .sums .counts) (l .score)) (s .book) (loanShare (termsIn s) l)
-    loan-taken m =
-        taken-with (loanBeyond (s .book .header) (s .book .sums .counts) (l .score)) 5 (s .book) (loanShare (termsIn s) l) (sym test ∙ e) (m
-        ∙ ap (answerWith 0 (s .book)) k)
+    -- what adding it to its cell asks
+    pub cell-asks : Sound s → LoanRanges l →
+        CellsBounded (s .cells) 4000000 × (l .balance ≤ 300000000) × (x .total .plus ≤ 300000000) × (x .total .minus ≤ 300000000)
+    unfolding loanShare kindCounts
+    cell-asks h r =
+        let b : Bounded (loanShare (termsIn s) l) = loan-bounded (rates-chargeable (termsIn s) (h .rates)) l r in (
+          bounded-wider (s .cells) (omega (arith, h .book .loans, h .book .header-loans)) (h .cells),
+          omega (arith, r .balance-most),
+          rw k (omega (arith, b .total-plus)),
+          rw k (omega (arith, b .total-minus)),
+        )
+
+    pub loan-taken : {place : ℕ} → place ≡ placeOf (loanBand l) (loanLtv l) → {r : Fed} {cells : List ℕ} → r ≡ answerWith 0 (s .book) x →
+        cells ≡ withLoan (s .cells) place (l .balance) (x .total) → Adds r cells
+    unfolding loanShare cellsWith
+    loan-taken p {r} {cells} m n =
+        let f : loanBeyond (s .book .header) (s .book .sums .counts) (l .score) ≡ false = sym test ∙ e in (
+          taken-with (loanBeyond (s .book .header) (s .book .sums .counts) (l .score)) 5 (s .book) (loanShare (termsIn s) l) f (m
+              ∙ ap (answerWith 0 (s .book)) k),
+          rw f (n ∙ ap₂ (λ (at : ℕ) (y : Sums). withLoan (s .cells) at (l .balance) (y .total)) p k),
+        )
 
 -- what adding another line within the limit asks
 pub other-asks : (b : Book) (x : Sums) → SoundBook b → Bounded x → x .counts ≡ kindCounts another → otherRefusal (b .sums .counts) ≡ 0 → Bounded (b .sums)

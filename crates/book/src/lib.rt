@@ -4,12 +4,13 @@ ghost use Prim.Native.Nat.{_≤_};
 ghost use lib.ListN.{length};
 ghost use Rattle.loan_charge.specs.Tables.{exponentials};
 ghost use Rattle.loan_charge.specs.CreditFactor.{builtInRates};
+ghost use Rattle.line_forms.specs.declared.Content.the-variants.{Loan as loan};
 ghost use Rattle.line_forms.specs.Claims.{lineContent};
 ghost use Rattle.figures.specs.Sums.{Bounded, InLimits, plus};
 ghost use Rattle.report.specs.Line.{Written};
 ghost use Rattle.book_model.specs.Accepted.{loanBeyond, loanRefusal, otherRefusal};
-ghost use Rattle.book_model.specs.Calls.{stateAt, openedOf, fedOf, zeroHeader, emptyBook, opening, feedingLine, feeding, reportSize, reportOf, closing};
-ghost use Rattle.book_model.specs.Calls.{closed, SoundBook, Sound};
+ghost use Rattle.book_model.specs.Calls.{stateAt, openedOf, fedOf, zeroHeader, emptyBook, opening, tableWith, feedingLine, feeding, SoundBook, Sound};
+ghost use Rattle.book_model.specs.Calls.{closingRefusal, reportSize, reportOf, closing, closed, closingCells, closedCells};
 ghost use Rattle.book_model.specs.LineKinds.{another, kindCounts};
 ghost use Rattle.book_model.specs.Ranges.{Ranged, LoanRanges};
 ghost use Rattle.book_model.specs.Share.{loanShare};
@@ -19,6 +20,7 @@ use book_model::Book;
 use book_model::Closed;
 use book_model::Fed;
 use book_model::Opened;
+use cell_report::Cells;
 use figures::Counts;
 use figures::Sums;
 use line_forms::Header;
@@ -34,6 +36,9 @@ const MOST_OTHER: u64 = 100000;
 
 // A report buffer has at least so many bytes.
 const REPORT_SIZE: usize = 512;
+
+// A buffer for the table of cells has at least so many.
+const CELLS_SIZE: usize = 8192;
 
 // A book with no line taken.
 fn empty(header: Header) -> Book
@@ -56,11 +61,13 @@ fn zero_header() -> Header
     }
 }
 
-// A header line opens a book.
-pub fn open(line: &[u8]) -> Opened
+// A header line opens a book, and clears the table of cells that is lent with it from here on.
+pub fn open(line: &[u8], cells: &mut Cells) -> Opened
     ensures equation { λ r. ⌜ r ≡ openedOf (opening (now (line .entry))) ⌝ }
-    ensures sound { λ r. ⌜ Sound (stateAt (r .book) builtInRates) ⌝ }
+    ensures cells { λ r. ⌜ now (cells .exit) ≡ opening (now (line .entry)) .state .cells ⌝ }
+    ensures sound { λ r. ⌜ Sound (stateAt (r .book) builtInRates (now (cells .exit))) ⌝ }
 {
+    cells::clear(cells);
     let read = line_reading::read_header(line);
     match read {
         HeaderLine::Header(header) => Opened {
@@ -108,9 +115,13 @@ fn loan_beyond(h: Header, counts: Counts, score: Score) -> bool
     (h.loans <= counts.loans) | ((shares::unscored(score) == 1) & (h.unscored <= counts.unscored))
 }
 
-fn add_loan(b: Book, exps: &Exponentials, rates: &Rates, l: Loan) -> Fed
-    requires { ⌜ Sound (stateAt b (now rates)) × LoanRanges l × (now exps ≡ exponentials) ⌝ }
-    ensures { λ r. ⌜ r ≡ answerWith (loanRefusal (b .header) (b .sums .counts) (l .score)) b (loanShare (under (b .header) (now (rates .entry))) l) ⌝ }
+fn add_loan(b: Book, exps: &Exponentials, rates: &Rates, cells: &mut Cells, l: Loan) -> Fed
+    requires { ⌜ Sound (stateAt b (now rates) (now cells)) × LoanRanges l × (now exps ≡ exponentials) ⌝ }
+    ensures equation { λ r.
+        ⌜ r ≡ answerWith (loanRefusal (b .header) (b .sums .counts) (l .score)) b (loanShare (under (b .header) (now (rates .entry))) l) ⌝ }
+    ensures cells { λ r.
+        ⌜ now (cells .exit) ≡
+        tableWith (loanRefusal (b .header) (b .sums .counts) (l .score)) (under (b .header) (now (rates .entry))) (loan l) (now (cells .entry)) ⌝ }
 {
     let header = b.header;
     let sums = b.sums;
@@ -121,16 +132,21 @@ fn add_loan(b: Book, exps: &Exponentials, rates: &Rates, l: Loan) -> Fed
             book: b,
         };
     }
-    with_share(b, shares::loan(header, l, exps, rates))
+    let share = shares::loan(header, l, exps, rates);
+    let total = share.total;
+    let place = cells::place_of(l);
+    cells::add_loan(cells, place, l.balance, total);
+    with_share(b, share)
 }
 
 // A line that was read.
-fn feed_line(b: Book, exps: &Exponentials, rates: &Rates, line: Line) -> Fed
-    requires { ⌜ Sound (stateAt b (now rates)) × Ranged (lineContent line) × (now exps ≡ exponentials) ⌝ }
-    ensures { λ r. ⌜ r ≡ fedOf (feedingLine (stateAt b (now (rates .entry))) line) ⌝ }
+fn feed_line(b: Book, exps: &Exponentials, rates: &Rates, cells: &mut Cells, line: Line) -> Fed
+    requires { ⌜ Sound (stateAt b (now rates) (now cells)) × Ranged (lineContent line) × (now exps ≡ exponentials) ⌝ }
+    ensures equation { λ r. ⌜ r ≡ fedOf (feedingLine (stateAt b (now (rates .entry)) (now (cells .entry))) line) ⌝ }
+    ensures cells { λ r. ⌜ now (cells .exit) ≡ feedingLine (stateAt b (now (rates .entry)) (now (cells .entry))) line .state .cells ⌝ }
 {
     match line {
-        Line::Loan(l) => add_loan(b, exps, rates, l),
+        Line::Loan(l) => add_loan(b, exps, rates, cells, l),
         Line::Policy(p) => {
             let class = p.class;
             add_other(b, shares::policy(class, p.premium, p.term, p.completed))
@@ -146,28 +162,46 @@ fn feed_line(b: Book, exps: &Exponentials, rates: &Rates, line: Line) -> Fed
     }
 }
 
-// A line is fed to a book, with both tables lent: for loops, since a constant array would be stored whole at every use.
-pub fn feed_with(b: Book, exps: &Exponentials, rates: &Rates, line: &[u8]) -> Fed
-    requires { ⌜ Sound (stateAt b (now rates)) × (now exps ≡ exponentials) ⌝ }
-    ensures equation { λ r. ⌜ r ≡ fedOf (feeding (stateAt b (now (rates .entry))) (now (line .entry))) ⌝ }
-    ensures sound { λ r. ⌜ Sound (stateAt (r .book) (now (rates .entry))) ⌝ }
+// A line is fed to a book, with the constant tables lent too: for loops, since a constant array would be stored whole at every use.
+pub fn feed_with(b: Book, exps: &Exponentials, rates: &Rates, cells: &mut Cells, line: &[u8]) -> Fed
+    requires { ⌜ Sound (stateAt b (now rates) (now cells)) × (now exps ≡ exponentials) ⌝ }
+    ensures equation { λ r. ⌜ r ≡ fedOf (feeding (stateAt b (now (rates .entry)) (now (cells .entry))) (now (line .entry))) ⌝ }
+    ensures cells { λ r. ⌜ now (cells .exit) ≡ feeding (stateAt b (now (rates .entry)) (now (cells .entry))) (now (line .entry)) .state .cells ⌝ }
+    ensures sound { λ r. ⌜ Sound (stateAt (r .book) (now (rates .entry)) (now (cells .exit))) ⌝ }
 {
     let read = line_reading::read_line(line);
     let Line::Refusal(refusal) = read else {
-        return feed_line(b, exps, rates, read);
+        return feed_line(b, exps, rates, cells, read);
     };
     Fed { refusal, book: b }
 }
 
 // A line is fed to a book that is opened under the regulator's table.
-pub fn feed(b: Book, line: &[u8]) -> Fed
-    requires { ⌜ Sound (stateAt b builtInRates) ⌝ }
-    ensures equation { λ r. ⌜ r ≡ fedOf (feeding (stateAt b builtInRates) (now (line .entry))) ⌝ }
-    ensures sound { λ r. ⌜ Sound (stateAt (r .book) builtInRates) ⌝ }
+pub fn feed(b: Book, cells: &mut Cells, line: &[u8]) -> Fed
+    requires { ⌜ Sound (stateAt b builtInRates (now cells)) ⌝ }
+    ensures equation { λ r. ⌜ r ≡ fedOf (feeding (stateAt b builtInRates (now (cells .entry))) (now (line .entry))) ⌝ }
+    ensures cells { λ r. ⌜ now (cells .exit) ≡ feeding (stateAt b builtInRates (now (cells .entry))) (now (line .entry)) .state .cells ⌝ }
+    ensures sound { λ r. ⌜ Sound (stateAt (r .book) builtInRates (now (cells .exit))) ⌝ }
 {
     let exps = loan_charge::charge::table();
     let rates = loan_charge::credit::rates();
-    feed_with(b, &exps, &rates, line)
+    feed_with(b, &exps, &rates, cells, line)
+}
+
+// The refusal of a closing that asks for a buffer of so many bytes, 0 for none: 6 for too few loans, or too few without a score, then 9.
+fn closing_refusal(b: Book, least: usize, size: usize) -> u64
+    ensures { λ r. ⌜ r ≡ closingRefusal least (b .header) (b .sums .counts) size ⌝ }
+{
+    let header = b.header;
+    let sums = b.sums;
+    let counts = sums.counts;
+    if (counts.loans < header.loans) | (counts.unscored < header.unscored) {
+        return 6;
+    }
+    if size < least {
+        return 9;
+    }
+    0
 }
 
 // The report of a book.
@@ -187,21 +221,23 @@ pub fn close(b: Book, out: &mut [u8]) -> Closed
     ensures equation { λ r. ⌜ r ≡ closing b (length (now (out .entry))) ⌝ }
     ensures bytes { λ r. ⌜ now (out .exit) ≡ closed b (now (out .entry)) ⌝ }
 {
-    let header = b.header;
-    let sums = b.sums;
-    let counts = sums.counts;
-    if (counts.loans < header.loans) | (counts.unscored < header.unscored) {
-        return Closed {
-            refusal: 6,
-            length: 0,
-        };
-    }
-    if out.len() < REPORT_SIZE {
-        return Closed {
-            refusal: 9,
-            length: 0,
-        };
+    let refusal = closing_refusal(b, REPORT_SIZE, out.len());
+    if refusal != 0 {
+        return Closed { refusal, length: 0 };
     }
     let length = put_report(b, out);
+    Closed { refusal: 0, length }
+}
+
+// A book's table of cells is written to the lent buffer: the second closing.
+pub fn close_cells(b: Book, cells: &Cells, out: &mut [u8]) -> Closed
+    ensures equation { λ r. ⌜ r ≡ closingCells b (now (cells .entry)) (length (now (out .entry))) ⌝ }
+    ensures bytes { λ r. ⌜ now (out .exit) ≡ closedCells b (now (cells .entry)) (now (out .entry)) ⌝ }
+{
+    let refusal = closing_refusal(b, CELLS_SIZE, out.len());
+    if refusal != 0 {
+        return Closed { refusal, length: 0 };
+    }
+    let length = cell_report::put_cells(out, cells);
     Closed { refusal: 0, length }
 }

@@ -1,5 +1,5 @@
 -- Closing by cases of its tests, for any text and any size asked. Assumes nothing.
-use mathlib.Core.Path.{_≡_, refl}
+use mathlib.Core.Path.{_≡_, refl, _∙_}
 use mathlib.Core.Bool.{Bool, true, false, true≢false, false≢true, _||_}
 use mathlib.Core.List.{List}
 use mathlib.Core.Logic.{_↔_, _⊎_, inl, inr, ⊎-elim}
@@ -7,7 +7,7 @@ use Prim.Native.Nat.{ℕ, _≤_, _<_}
 use native.Mathlib.Omega.{arith}
 use lib.Dec.{eqb, ltb}
 use lib.ListN.{length}
-use borrow.Author.Tests.{ltb-true, ltb-false, lt-ltb, le-ltb, eq-eqb, eqb-true}
+use borrow.Author.Tests.{ltb-true, ltb-false, lt-ltb, le-ltb, eq-eqb, ne-eqb, eqb-true}
 use Rattle.exact.specs.Choice.{pick}
 use Rattle.line_forms.specs.declared.Header.{Header}
 use Rattle.figures.specs.declared.Counts.{Counts}
@@ -21,18 +21,17 @@ abbrev Answers : (least : ℕ) → Book → (text buffer : List ℕ) → Closed 
 Answers least b text buffer answer after = (answer ≡ closingWith least b text (length buffer)) × (after ≡ closedWith least b text buffer)
 
 module _ (least : ℕ) (b : Book) (text buffer : List ℕ) where
-  pub refused-6 : tooFew (b .header) (b .sums .counts) ≡ true → Answers least b text buffer (record { refusal = 6; length = 0 }) buffer
+  pub refused : {n : ℕ} → n ≡ closingRefusal least (b .header) (b .sums .counts) (length buffer) → (n ≡ 0 → ⊥) →
+      Answers least b text buffer (record { refusal = n; length = 0 }) buffer
   unfolding closingWith closedWith
-  refused-6 e = (rw e refl, rw e refl)
+  refused {n} e h =
+      let z = ne-eqb (closingRefusal least (b .header) (b .sums .counts) (length buffer)) 0 (λ z. h (e ∙ z)) in
+      (rw z (λ i. record { refusal = e i; length = 0 }), rw z refl)
 
-  pub refused-9 : tooFew (b .header) (b .sums .counts) ≡ false → length buffer < least → Answers least b text buffer (record { refusal = 9; length = 0 }) buffer
-  unfolding closingWith closedWith
-  refused-9 e f = (rw (e, lt-ltb (length buffer) least f) refl, rw (e, lt-ltb (length buffer) least f) refl)
-
-  pub written : tooFew (b .header) (b .sums .counts) ≡ false → least ≤ length buffer → {told : ℕ} {after : List ℕ} → Written buffer text told after →
+  pub written : closingRefusal least (b .header) (b .sums .counts) (length buffer) ≡ 0 → {told : ℕ} {after : List ℕ} → Written buffer text told after →
       Answers least b text buffer (record { refusal = 0; length = told }) after
   unfolding closingWith closedWith
-  written e f w = (rw (e, le-ltb (length buffer) least f) (λ i. record { refusal = 0; length = w .count i }), rw (e, le-ltb (length buffer) least f) (w .bytes))
+  written e w = (rw e (λ i. record { refusal = 0; length = w .count i }), rw e (w .bytes))
 
   pub untouched : (closingWith least b text (length buffer) .refusal ≡ 0 → ⊥) → closedWith least b text buffer ≡ buffer
   unfolding closingWith closedWith
@@ -45,6 +44,11 @@ module _ (least : ℕ) (b : Book) (text buffer : List ℕ) where
   pub writes : closingWith least b text (length buffer) .refusal ≡ 0 → closedWith least b text buffer ≡ onto buffer text
   unfolding closingWith closedWith
   writes e = rw (eq-eqb (closingRefusal least (b .header) (b .sums .counts) (length buffer)) 0 e) refl
+
+pub not-refused : (least : ℕ) (b : Book) (text : List ℕ) (size : ℕ) → tooFew (b .header) (b .sums .counts) ≡ false → least ≤ size →
+    closingWith least b text size .refusal ≡ 0
+unfolding closingWith
+not-refused least b text size e h = rw (e, le-ltb size least h) refl
 
 pub tells : (least : ℕ) (b : Book) (text : List ℕ) (size : ℕ) → closingWith least b text size .refusal ≡ 0 → closingWith least b text size .length ≡ length text
 unfolding closingWith

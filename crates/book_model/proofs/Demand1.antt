@@ -20,9 +20,11 @@ use Rattle.line_forms.proofs.LineLaws.{line-numbers}
 use Rattle.figures.specs.Figures.{figuresOf}
 use Rattle.figures.proofs.FiguresLaws.{figures-bounded}
 use Rattle.book_report.proofs.Lengths.{report-most}
+use Rattle.cell_report.proofs.Laws.{cells-fit as cells-fit-64}
 use Rattle.book_model.specs.declared.Book.{Book}
 use Rattle.book_model.specs.Accepted.{mostOther, loanBeyond, refusalFor}
-use Rattle.book_model.specs.Calls.{State, stateAt, openingFor, refusalIn, bookAfter, feedingLine, tooFew, closingWith, reportSize, reportOf, SoundBook}
+use Rattle.book_model.specs.Calls.{State, stateAt, openingFor, refusalIn, bookAfter, cellsAfter, feedingLine, tooFew, closingWith, reportSize}
+use Rattle.book_model.specs.Calls.{reportOf, cellsSize, cellsTextOf, SoundBook, Sound}
 use Rattle.book_model.specs.Demand1.{refusedState, Demand1}
 use Rattle.book_model.specs.LineKinds.{contentKind}
 use Rattle.book_model.proofs.Closings.{untouched}
@@ -75,17 +77,20 @@ refused-opening (HeaderRead h) n = absurd (n refl)
 refused-opening (HeaderRefusal k) n = refl
 
 refused-feeding : (s : State) (l : Line) → (feedingLine s l .refusal ≡ 0 → ⊥) → feedingLine s l .state ≡ s
-unfolding feedingLine bookAfter
-refused-feeding s l n = go (eqb (refusalIn s l) 0) _ refl
+unfolding feedingLine bookAfter cellsAfter
+refused-feeding s l n = go (eqb (refusalIn s l) 0) _ _ refl
   where
-    go : (t : Bool) (b : Book) → eqb (refusalIn s l) 0 ≡ t → stateAt (pick t b (s .book)) (s .rates) ≡ s
-    go true b e = absurd (n (eqb-true (refusalIn s l) 0 e))
-    go false b e = refl
+    go : (t : Bool) (b : Book) (cells : List ℕ) → eqb (refusalIn s l) 0 ≡ t → stateAt (pick t b (s .book)) (s .rates) (pick t cells (s .cells)) ≡ s
+    go true b cells e = absurd (n (eqb-true (refusalIn s l) 0 e))
+    go false b cells e = refl
 
 report-fits : (b : Book) → SoundBook b → length (reportOf b) ≤ 512
 report-fits b h =
     let bounds = figures-bounded (b .header .held) (b .sums) (h .bounded) (record { loans = omega (arith, h .loans, h .header-loans); other = h .other }) in
     omega (arith, report-most (figuresOf (b .header .held) (b .sums)) bounds)
+
+cells-fit : (s : State) → Sound s → length (cellsTextOf (s .cells)) ≤ 8192
+cells-fit s h = cells-fit-64 (s .cells) (λ i. omega (arith, h .cells .each i, h .book .loans, h .book .header-loans))
 
 pub demand1 : Demand1
 unfolding closingWith feedingLine
@@ -93,10 +98,13 @@ demand1 = record {
   opening-numbers = λ line. opening-number (headerOf line) (header-numbers line);
   feeding-numbers = λ s line. feeding-number s (lineOf line) (line-numbers line);
   closing-numbers = λ b size. closing-number (tooFew (b .header) (b .sums .counts)) (ltb size reportSize);
+  cells-numbers = λ b cells size. closing-number (tooFew (b .header) (b .sums .counts)) (ltb size cellsSize);
   refused-opening = λ line. refused-opening (headerOf line);
   refused-feeding = λ s line. refused-feeding s (lineOf line);
   refused-closing = λ b buffer n. untouched reportSize b (reportOf b) buffer n;
+  refused-cells = λ b cells buffer n. untouched cellsSize b (cellsTextOf cells) buffer n;
   report-fits = report-fits;
+  cells-fit = cells-fit;
   opening-sound = λ line. feeding-laws.opening-sound (headerOf line) (ranged-header line);
   feeding-sound = λ s line h. feeding-laws.fed-sound s (lineOf line) h (ranged line);
 }

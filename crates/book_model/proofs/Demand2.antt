@@ -26,7 +26,7 @@ use Rattle.line_forms.proofs.LineLaws.{line-reading, line-accepted, line-number
 use Rattle.line_forms.proofs.HeaderLaws.{header-reading, header-accepted, header-numbers}
 use Rattle.figures.specs.declared.Counts.{Counts}
 use Rattle.book_model.specs.Accepted.{Accepted, countsIn, mostOther, loanBeyond, refusalFor, refusalOf}
-use Rattle.book_model.specs.Calls.{Answer, emptyState, openingFor, opening, closingRefusal, reportSize}
+use Rattle.book_model.specs.Calls.{Answer, emptyState, openingFor, opening, closingRefusal, reportSize, cellsSize}
 use Rattle.book_model.specs.Demand2.{OtherForm, Counted, OpeningAnswer, LoanFits, LoanBeyond, Fits, FeedingAnswer, ClosingAnswer, Demand2}
 use Rattle.book_model.specs.History.{opened, allFed, termsOf, acceptedOf}
 use Rattle.book_model.specs.LineKinds.{LineKind, a-loan, another, refused, contentKind, kindOf, kindCounts, unscoredCount}
@@ -34,6 +34,7 @@ use Rattle.book_model.specs.Terms.{Terms, termsWith}
 use Rattle.book_model.proofs.BoundedShares.{unscored-most}
 use Rattle.book_model.proofs.Closings.{closes-6, closes-9, closes-0}
 use Rattle.book_model.proofs.Demand3.{demand3}
+use Rattle.book_model.proofs.LoanTable.{loan-table}
 
 -- Lines
 
@@ -301,11 +302,12 @@ feeding-answer t a s =
 
 -- Closing
 
-pub closing-answer : (t : Terms) (a : Accepted) (size : ℕ) → ClosingAnswer reportSize t a size (closingRefusal reportSize (t .header) (countsIn (a .kept)) size)
-closing-answer t a size = record {
-  number-6 = closes-6 reportSize (t .header) (countsIn (a .kept)) size;
-  number-9 = closes-9 reportSize (t .header) (countsIn (a .kept)) size;
-  writes = closes-0 reportSize (t .header) (countsIn (a .kept)) size;
+pub closing-answer : (least : ℕ) (t : Terms) (a : Accepted) (size : ℕ) →
+    ClosingAnswer least t a size (closingRefusal least (t .header) (countsIn (a .kept)) size)
+closing-answer least t a size = record {
+  number-6 = closes-6 least (t .header) (countsIn (a .kept)) size;
+  number-9 = closes-9 least (t .header) (countsIn (a .kept)) size;
+  writes = closes-0 least (t .header) (countsIn (a .kept)) size;
 }
 
 -- Opening
@@ -368,5 +370,8 @@ demand2 = record {
       rw (demand3 header lines .closes .answers s) (feeding-answer (termsOf (opened header)) a s);
   closings = λ header lines size.
       let a : Accepted = acceptedOf (allFed (opened header) lines) in
-      rw (demand3 header lines .closes .refusal size) (closing-answer (termsOf (opened header)) a size);
+      rw (demand3 header lines .closes .report .refusal size) (closing-answer reportSize (termsOf (opened header)) a size);
+  cells-closings = λ header lines size.
+      let a : Accepted = acceptedOf (allFed (opened header) lines) in
+      rw (loan-table .closes header lines .refusal size) (closing-answer cellsSize (termsOf (opened header)) a size);
 }

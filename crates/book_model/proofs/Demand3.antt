@@ -14,7 +14,7 @@ use Rattle.exact.specs.Choice.{pick}
 use Rattle.exact.specs.Fraction.{whole, _⊕_, _≼_, _≺_}
 use Rattle.exact.specs.Quantity.{Eventually}
 use Rattle.exact.proofs.Quantities.{at-every-order, mapped, some-allowed}
-use Rattle.loan_charge.specs.CreditFactor.{RatesInRange}
+use Rattle.loan_charge.specs.CreditFactor.{builtInRates, RatesInRange}
 use Rattle.loan_charge.proofs.CreditLaws.{built-in}
 use Rattle.line_forms.specs.declared.HeaderLine.{HeaderLine}
 use Rattle.line_forms.specs.declared.HeaderLine.the-variants.{Header as HeaderRead, Refusal as HeaderRefusal}
@@ -32,8 +32,10 @@ use Rattle.report.proofs.Decimal.{digits-value, signed-positive}
 use Rattle.book_report.specs.Report.{unsigned, valueLine, ratioLine, headText, reportText}
 use Rattle.book_model.specs.declared.Book.{Book}
 use Rattle.book_model.specs.Accepted.{Accepted, noneAccepted, countsIn, refusalOf, accept}
-use Rattle.book_model.specs.Calls.{State, Answer, openingFor, opening, feeding, closing, closed, closingRefusal, closingWith, reportSize, reportOf}
-use Rattle.book_model.specs.Demand3.{figuresFor, reportFor, afterLines, hundredthsPerLoan, allowance, Closes, Measured, SameReports, Demand3}
+use Rattle.book_model.specs.Calls.{State, Answer, stateAt, emptyBook, openingFor, opening, feeding, zeroHeader, closingRefusal}
+use Rattle.book_model.specs.Calls.{closingWith, closedWith, reportSize, reportOf}
+use Rattle.book_model.specs.Demand3.{figuresFor, reportFor, afterLines, hundredthsPerLoan, allowance, Writes, Closes, Measured, SameTexts}
+use Rattle.book_model.specs.Demand3.{SameReports, Demand3}
 use Rattle.book_model.specs.Exact.{requirement}
 use Rattle.book_model.specs.History.{History, opened, fed, headerIn, allFed, termsOf, acceptedOf, linesTaken, sumsOf}
 use Rattle.book_model.specs.Share.{share}
@@ -45,6 +47,7 @@ use Rattle.book_model.proofs.ExactSums.{rest-sum, moved-sum, rounded-is
 use Rattle.book_model.proofs.Near.{rates-chargeable}
 use Rattle.book_model.proofs.Required.{requiredFor, near, list-exponents}
 use Rattle.book_model.proofs.Steps.{bookOf, stateOf, counts, step}
+use Rattle.book_model.proofs.Tables.{no-cells}
 
 -- The state after a list of lines is the state of the accepted lines.
 
@@ -70,8 +73,8 @@ unfolding openingFor headerIn sumsOf sumOf termsOf acceptedOf
 opened-is header = go (headerOf header)
   where
     go : (l : HeaderLine) → openingFor l .state ≡ stateOf (termsWith (headerIn l)) noneAccepted
-    go (HeaderRead h) = refl
-    go (HeaderRefusal n) = refl
+    go (HeaderRead h) = ap (stateAt (emptyBook h) builtInRates) (no-cells (termsWith h))
+    go (HeaderRefusal n) = ap (stateAt (emptyBook zeroHeader) builtInRates) (no-cells (termsWith zeroHeader))
 
 -- the terms of a list of lines are those of its header
 pub terms-stay : (past : History) (lines : List (List ℕ)) → termsOf (allFed past lines) ≡ termsOf past
@@ -111,23 +114,23 @@ grows t a s = (λ e. rw (eq-eqb (refusalOf t a s) 0 e) refl, λ e. go (eqb (refu
     go true f e = eqb→eq (refusalOf t a s) 0 (rw f tt)
     go false f e = absurd (not-itself (a .kept) s e)
 
--- the number that closing answers is that of the accepted lines
-pub closing-number : (t : Terms) (kept : List (List ℕ)) (size : ℕ) →
-    closing (bookOf t kept) size .refusal ≡ closingRefusal reportSize (t .header) (countsIn kept) size
+-- A closing of the book of the accepted lines, whatever it writes.
+pub writes-of : (least : ℕ) (t : Terms) (a : Accepted) (text : List ℕ) →
+    Writes least t a text (closingWith least (bookOf t (a .kept)) text) (closedWith least (bookOf t (a .kept)) text)
 unfolding closingWith
-closing-number t kept size = ap (λ (c : Counts). closingRefusal reportSize (t .header) c size) (counts t kept)
+writes-of least t a text = record {
+  refusal = λ size. ap (λ (c : Counts). closingRefusal least (t .header) c size) (counts t (a .kept));
+  untouched = λ buffer n. untouched least (bookOf t (a .kept)) text buffer n;
+  written = λ buffer e. writes least (bookOf t (a .kept)) text buffer e;
+  told = λ size e. tells least (bookOf t (a .kept)) text size e;
+}
 
 pub closes-of : (t : Terms) (a : Accepted) → Closes t a (stateOf t a)
-closes-of t a =
-    let b : Book = bookOf t (a .kept) in
-    record {
-      answers = λ s. ap (λ (x : Answer). x .refusal) (step t a s);
-      taken = λ s. rw (ap (λ (x : Answer). x .refusal) (step t a s)) (grows t a s);
-      refusal = λ size. closing-number t (a .kept) size;
-      untouched = λ buffer n. untouched reportSize b (reportOf b) buffer n;
-      report = λ buffer e. rw (← report-is t (a .kept)) (writes reportSize b (reportOf b) buffer e);
-      told = λ size e. rw (← report-is t (a .kept)) (tells reportSize b (reportOf b) size e);
-    }
+closes-of t a = record {
+  answers = λ s. ap (λ (x : Answer). x .refusal) (step t a s);
+  taken = λ s. rw (ap (λ (x : Answer). x .refusal) (step t a s)) (grows t a s);
+  report = rw (← report-is t (a .kept)) (writes-of reportSize t a (reportOf (bookOf t (a .kept))));
+}
 
 -- The required amount
 
@@ -196,22 +199,26 @@ unfolding onto
 taken-text buffer text = take-at text (drop (length text) buffer) (length text) refl
 
 -- what a closing that is not refused tells and writes
-pub tells-writes : (b : Book) (x : List ℕ) → closing b (length x) .refusal ≡ 0 →
-    (closing b (length x) .length ≡ length (reportOf b)) × (take (closing b (length x) .length) (closed b x) ≡ reportOf b)
-tells-writes b x e =
-    let told = tells reportSize b (reportOf b) (length x) e in
-    (told, ap₂ take told (writes reportSize b (reportOf b) x e) ∙ taken-text x (reportOf b))
+tells-writes : (least : ℕ) (b : Book) (text x : List ℕ) → closingWith least b text (length x) .refusal ≡ 0 →
+    (closingWith least b text (length x) .length ≡ length text) × (take (closingWith least b text (length x) .length) (closedWith least b text x) ≡ text)
+tells-writes least b text x e =
+    let told = tells least b text (length x) e in
+    (told, ap₂ take told (writes least b text x e) ∙ taken-text x text)
+
+-- Two closings of the same text.
+pub same-texts : (least : ℕ) (b c : Book) {text other : List ℕ} → text ≡ other →
+    SameTexts (closingWith least b text) (closedWith least b text) (closingWith least c other) (closedWith least c other)
+same-texts least b c {text} {other} r x y e f =
+    let w = tells-writes least b text x e in
+    let v = tells-writes least c other y f in
+    (w .0 ∙ ap length r ∙ sym (v .0), w .1 ∙ r ∙ sym (v .1))
 
 -- the report does not depend on the order
 pub report-permuted : (t : Terms) {kept others : List (List ℕ)} → List·Permᴰ kept others → reportOf (bookOf t kept) ≡ reportOf (bookOf t others)
 report-permuted t p = ap (λ (s : Sums). reportOf (record { header = t .header; sums = s })) (sums-permuted t p)
 
 pub same-reports : (t : Terms) {kept others : List (List ℕ)} → List·Permᴰ kept others → SameReports (bookOf t kept) (bookOf t others)
-same-reports t {kept} {others} p x y e f =
-    let w = tells-writes (bookOf t kept) x e in
-    let v = tells-writes (bookOf t others) y f in
-    let r : reportOf (bookOf t kept) ≡ reportOf (bookOf t others) = report-permuted t p in
-    (w .0 ∙ ap length r ∙ sym (v .0), w .1 ∙ r ∙ sym (v .1))
+same-reports t {kept} {others} p = same-texts reportSize (bookOf t kept) (bookOf t others) (report-permuted t p)
 
 pub demand3 : (header : List ℕ) (lines : List (List ℕ)) → Demand3 header lines
 demand3 header lines =

@@ -1,7 +1,8 @@
 -- Every state that opening and feeding give is sound, and what the functions below the calls ask. Assumes nothing.
 use mathlib.Core.Path.{_≡_, refl, sym, subst}
 use mathlib.Core.Bool.{Bool, true, false, _||_}
-use Prim.Native.Nat.{ℕ, _≤_}
+use mathlib.Core.List.{List}
+use Prim.Native.Nat.{ℕ, _+_, _*_, _≤_}
 use native.Mathlib.Omega.{arith}
 use lib.Dec.{T, eqb, leb, eqb→eq}
 use borrow.Author.Tests.{leb-false}
@@ -22,15 +23,18 @@ use Rattle.figures.specs.declared.Sums.{Sums}
 use Rattle.figures.specs.Sums.{Bounded, InLimits, countsSum, plus, noSums}
 use Rattle.figures.proofs.SumsLaws.{plus-bounded, none-bounded, plus-none}
 use Rattle.book_model.specs.declared.Book.{Book}
-use Rattle.book_model.specs.declared.Fed.{Fed}
 use Rattle.book_model.specs.Accepted.{mostOther, loanBeyond, refusalFor}
-use Rattle.book_model.specs.Calls.{State, termsIn, fedOf, zeroHeader, emptyBook, openingFor, refusalIn, bookAfter, feedingLine, SoundBook, Sound}
+use Rattle.book_model.specs.Calls.{State, Answer, stateAt, termsIn, zeroHeader, emptyBook, openingFor, refusalIn, bookAfter, cellsAfter, feedingLine}
+use Rattle.book_model.specs.Calls.{SoundBook, Sound}
+use Rattle.book_model.specs.Cells.{loanBand, loanLtv, withLoan, cellsWith, CellsBounded}
 use Rattle.book_model.specs.LineKinds.{LineKind, a-loan, another, refused, contentKind, kindOf, kindCounts, unscoredCount}
 use Rattle.book_model.specs.Ranges.{Ranged, HeaderRanges, RangedHeader}
-use Rattle.book_model.specs.Share.{share}
+use Rattle.book_model.specs.Share.{loanNumbers, loanShare, share}
 use Rattle.book_model.specs.Terms.{Terms, under}
-use Rattle.book_model.proofs.BoundedShares.{share-bounded, counted}
-use Rattle.book_model.proofs.Near.{rates-chargeable}
+use Rattle.cell_report.specs.CellReport.{placeOf}
+use Rattle.book_model.proofs.BoundedShares.{loan-bounded, share-bounded, counted}
+use Rattle.book_model.proofs.Cells.{Held, a-loan as held-loan, no-loan, held, bounded-wider, loan-more, none-bounded as no-cells-bounded}
+use Rattle.book_model.proofs.Near.{ChargeableTerms, rates-chargeable}
 
 -- Opening
 
@@ -48,9 +52,13 @@ empty-sound h r =
 
 pub opening-sound : (l : HeaderLine) → RangedHeader l → Sound (openingFor l .state)
 unfolding openingFor
-opening-sound (HeaderRead h) r = record { book = empty-sound h r; rates = built-in }
+opening-sound (HeaderRead h) r = record { book = empty-sound h r; rates = built-in; cells = no-cells-bounded 0 }
 opening-sound (HeaderRefusal n) r =
-    record { book = empty-sound zeroHeader (record { loans = omega arith; unscored = omega arith; held = omega arith }); rates = built-in }
+    record {
+      book = empty-sound zeroHeader (record { loans = omega arith; unscored = omega arith; held = omega arith });
+      rates = built-in;
+      cells = no-cells-bounded 0;
+    }
 
 -- Feeding
 
@@ -126,23 +134,45 @@ room-line : (s : State) (l : Line) → SoundBook (s .book) → refusalIn s l ≡
     Room (s .book .header) (countsSum (s .book .sums .counts) (share (termsIn s) (lineContent l) .counts))
 room-line s l h e = rw (counted (termsIn s) (lineRefusal l) (lineContent l)) (room (termsIn s) (s .book .sums .counts) (kindOf l) (book-room h) e)
 
-pub fed-sound : (s : State) (l : Line) → Sound s → Ranged (lineContent l) → Sound (feedingLine s l .state)
-unfolding feedingLine bookAfter
-fed-sound s l h r = record { book = go (eqb (refusalIn s l) 0) refl; rates = h .rates }
+-- The table with what a line adds, and the loans counted with it.
+cells-more : {t : Terms} (cells : List ℕ) (n : ℕ) → ChargeableTerms t → (c : Content) → Ranged c → CellsBounded cells (4 * n) →
+    CellsBounded (cellsWith t c cells) (4 * (n + share t c .counts .loans))
+unfolding cellsWith share loanShare kindCounts
+cells-more {t} cells n g c r b = go (held c) r
   where
-    go : (t : Bool) → eqb (refusalIn s l) 0 ≡ t → SoundBook
-        (pick t (record { header = s .book .header; sums = plus (s .book .sums) (share (termsIn s) (lineContent l)) }) (s .book))
+    go : {c : Content} → Held c → Ranged c → CellsBounded (cellsWith t c cells) (4 * (n + share t c .counts .loans))
+    go (held-loan l) r =
+        let k : Bounded (loanShare t l) = loan-bounded g l r in
+        loan-more cells _ (l .balance) n (loanNumbers t l .total) (omega (arith, r .balance-most)) (omega (arith, k .total-plus)) (omega (arith, k .total-minus)) b
+    go (no-loan e) r = rw (e (List ℕ) (λ l. withLoan cells (placeOf (loanBand l) (loanLtv l)) (l .balance) (loanNumbers t l .total)) cells)
+        (bounded-wider cells (omega arith) b)
+
+pub fed-sound : (s : State) (l : Line) → Sound s → Ranged (lineContent l) → Sound (feedingLine s l .state)
+unfolding feedingLine bookAfter cellsAfter
+fed-sound s l h r = go (eqb (refusalIn s l) 0) refl
+  where
+    go : (t : Bool) → eqb (refusalIn s l) 0 ≡ t → Sound
+        (stateAt (pick t (record { header = s .book .header; sums = plus (s .book .sums) (share (termsIn s) (lineContent l)) }) (s .book)) (s .rates)
+        (pick t (cellsWith (termsIn s) (lineContent l) (s .cells)) (s .cells)))
     go true e =
-        more-sound (h .book) (line-bounded (s .book .header) (h .rates) (lineContent l) r)
-        (room-line s l (h .book) (eqb→eq (refusalIn s l) 0 (subst (λ (t : Bool). T t) (sym e) tt)))
-    go false e = h .book
+        record {
+          book =
+              more-sound (h .book) (line-bounded (s .book .header) (h .rates) (lineContent l) r)
+              (room-line s l (h .book) (eqb→eq (refusalIn s l) 0 (subst (λ (t : Bool). T t) (sym e) tt)));
+          rates = h .rates;
+          cells = cells-more (s .cells) (s .book .sums .counts .loans) (rates-chargeable (termsIn s) (h .rates)) (lineContent l) r (h .cells);
+        }
+    go false e = h
 
 -- A line refused by its bytes adds nothing, whatever its number.
-pub fed-refused : (s : State) (n : ℕ) → record { refusal = n; book = s .book } ≡ fedOf (feedingLine s (Refusal n))
-unfolding feedingLine bookAfter refusalFor contentKind share
+pub fed-refused : (s : State) (n : ℕ) → record { refusal = n; state = s } ≡ feedingLine s (Refusal n)
+unfolding feedingLine bookAfter cellsAfter cellsWith refusalFor contentKind share
 fed-refused s n = go (eqb n 0)
   where
-    go : (test : Bool) → _≡_ {A = Fed} (record { refusal = n; book = s .book })
-        (record { refusal = n; book = pick test (record { header = s .book .header; sums = plus (s .book .sums) noSums }) (s .book) })
-    go true = λ i. record { refusal = n; book = record { header = s .book .header; sums = sym (plus-none (s .book .sums)) i } }
+    go : (test : Bool) → _≡_ {A = Answer} (record { refusal = n; state = s })
+        (record {
+          refusal = n;
+          state = stateAt (pick test (record { header = s .book .header; sums = plus (s .book .sums) noSums }) (s .book)) (s .rates) (pick test (s .cells) (s .cells));
+        })
+    go true = λ i. record { refusal = n; state = stateAt (record { header = s .book .header; sums = sym (plus-none (s .book .sums)) i }) (s .rates) (s .cells) }
     go false = refl

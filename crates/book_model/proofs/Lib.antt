@@ -1,5 +1,7 @@
+pub mod Bands
 pub mod BoundedShares
 pub mod Bounds
+pub mod Cells
 pub mod Closings
 pub mod Demand1
 pub mod Dependence
@@ -8,8 +10,10 @@ pub mod Demand3
 pub mod ExactSums
 pub mod Examples
 pub mod Feeding
+pub mod LoanTable
 pub mod Near
 pub mod Ranged
 pub mod Required
 pub mod Shapes
 pub mod Steps
+pub mod Tables

@@ -20,7 +20,13 @@ ranged s = go (lineOf s) refl
     go : (l : Line) → lineOf s ≡ l → Ranged (lineContent l)
     go (LoanLine l) e =
         let b : LoanBounds l = loan-bounds s l e in
-        record { balance-least = b .balance .low; balance-most = b .balance .high; months-least = b .amortization .low; months-most = b .amortization .high }
+        record {
+          balance-least = b .balance .low;
+          balance-most = b .balance .high;
+          value-most = b .value .high;
+          months-least = b .amortization .low;
+          months-most = b .amortization .high;
+        }
     go (PolicyLine p) e = let b : PolicyBounds p = policy-bounds s p e in record { premium = b .premium .high }
     go (DerivativeLine d) e =
         let b : DerivativeBounds d = derivative-bounds s d e in

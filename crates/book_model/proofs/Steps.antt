@@ -13,19 +13,20 @@ use Rattle.figures.specs.Sums.{countsSum, plus, sumOf}
 use Rattle.figures.proofs.SumsLaws.{sum-append, plus-none}
 use Rattle.book_model.specs.declared.Book.{Book}
 use Rattle.book_model.specs.Accepted.{Accepted, countsIn, refusalFor, refusalOf, accept}
-use Rattle.book_model.specs.Calls.{State, stateAt, refusalIn, bookAfter, feedingLine, feeding}
+use Rattle.book_model.specs.Calls.{State, stateAt, refusalIn, bookAfter, cellsAfter, feedingLine, feeding}
 use Rattle.book_model.specs.History.{sumsOf}
 use Rattle.book_model.specs.LineKinds.{kindOf}
 use Rattle.book_model.specs.Share.{share}
 use Rattle.book_model.specs.Terms.{Terms}
 use Rattle.book_model.proofs.BoundedShares.{counted}
+use Rattle.book_model.proofs.Tables.{cellsOf, cells-more}
 
 -- the state that accepted lines make under terms
 abbrev pub bookOf : Terms → List (List ℕ) → Book
 bookOf t kept = record { header = t .header; sums = sumsOf t kept }
 
 abbrev pub stateOf : Terms → Accepted → State
-stateOf t a = stateAt (bookOf t (a .kept)) (t .rates)
+stateOf t a = stateAt (bookOf t (a .kept)) (t .rates) (cellsOf t (a .kept))
 
 -- The counts of a book are those of its accepted lines.
 pub counts : (t : Terms) (kept : List (List ℕ)) → sumsOf t kept .counts ≡ countsIn kept
@@ -57,6 +58,16 @@ book-step t a s =
     (sym (sums-more t (a .kept) s))
     ∙ by-case t (eqb (refusalOf t a s) 0) (a .kept ++ (s ∷ [])) (a .kept)
 
+cells-step : (t : Terms) (a : Accepted) (s : List ℕ) → cellsAfter (stateOf t a) (lineOf s) ≡ cellsOf t (accept t a s .kept)
+unfolding cellsAfter accept
+cells-step t a s =
+    ap₂ (λ (r : ℕ) (x : List ℕ). pick (eqb r 0) x (cellsOf t (a .kept))) (same-refusal t a s) (cells-more t (a .kept) s)
+    ∙ go (eqb (refusalOf t a s) 0)
+  where
+    go : (test : Bool) → pick test (cellsOf t (a .kept ++ (s ∷ []))) (cellsOf t (a .kept)) ≡ cellsOf t (pick test (a .kept ++ (s ∷ [])) (a .kept))
+    go true = refl
+    go false = refl
+
 pub step : (t : Terms) (a : Accepted) (s : List ℕ) → feeding (stateOf t a) s ≡ record { refusal = refusalOf t a s; state = stateOf t (accept t a s) }
 unfolding feedingLine
-step t a s = λ i. record { refusal = same-refusal t a s i; state = stateAt (book-step t a s i) (t .rates) }
+step t a s = λ i. record { refusal = same-refusal t a s i; state = stateAt (book-step t a s i) (t .rates) (cells-step t a s i) }

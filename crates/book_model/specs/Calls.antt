@@ -1,5 +1,5 @@
 -- Opening, feeding and closing a book as functions: the contracts of the calls equate their answers with these.
-use Prim.Native.Nat.{ℕ, _≤_}
+use Prim.Native.Nat.{ℕ, _*_, _≤_}
 use mathlib.Core.Bool.{Bool, false, _||_}
 use mathlib.Core.List.{List}
 use lib.Dec.{ltb, eqb}
@@ -8,6 +8,7 @@ use Rattle.exact.specs.Choice.{pick}
 use Rattle.line_forms.specs.declared.Header.{Header}
 use Rattle.line_forms.specs.declared.HeaderLine.{HeaderLine}
 use Rattle.line_forms.specs.declared.HeaderLine.the-variants.{Header as HeaderRead, Refusal as HeaderRefusal}
+use Rattle.line_forms.specs.declared.Content.{Content}
 use Rattle.line_forms.specs.declared.Line.{Line}
 use Rattle.line_forms.specs.Claims.{lineContent}
 use Rattle.line_forms.specs.Readings.{lineOf, headerOf}
@@ -18,11 +19,13 @@ use Rattle.figures.specs.Figures.{figuresOf}
 use Rattle.figures.specs.Sums.{noSums, plus, Bounded}
 use Rattle.report.specs.Line.{onto}
 use Rattle.book_report.specs.Report.{reportText}
+use Rattle.cell_report.specs.CellReport.{cellAt, cellsText}
 use Rattle.book_model.specs.declared.Book.{Book}
 use Rattle.book_model.specs.declared.Closed.{Closed}
 use Rattle.book_model.specs.declared.Fed.{Fed}
 use Rattle.book_model.specs.declared.Opened.{Opened}
 use Rattle.book_model.specs.Accepted.{mostOther, refusalFor}
+use Rattle.book_model.specs.Cells.{noCells, cellsWith, CellsBounded}
 use Rattle.book_model.specs.LineKinds.{kindOf}
 use Rattle.book_model.specs.Share.{share}
 use Rattle.book_model.specs.Terms.{Terms, under, termsWith}
@@ -31,9 +34,10 @@ use Rattle.book_model.specs.Terms.{Terms, under, termsWith}
 pub record State : Type 0 where
   pub book : Book
   pub rates : List ℕ
+  pub cells : List ℕ
 
-abbrev pub stateAt : Book → (rates : List ℕ) → State
-stateAt b rates = record { book = b; rates = rates }
+abbrev pub stateAt : Book → (rates cells : List ℕ) → State
+stateAt b rates cells = record { book = b; rates = rates; cells = cells }
 
 -- what it was opened under
 abbrev pub termsIn : State → Terms
@@ -61,7 +65,7 @@ abbrev pub emptyBook : Header → Book
 emptyBook h = record { header = h; sums = noSums }
 
 abbrev pub emptyState : Terms → State
-emptyState t = stateAt (emptyBook (t .header)) (t .rates)
+emptyState t = stateAt (emptyBook (t .header)) (t .rates) noCells
 
 -- A refused opening gives the value of an all-zero header.
 unfoldable pub openingFor : HeaderLine → Answer
@@ -84,8 +88,15 @@ bookWith n b added = pick (eqb n 0) (record { header = b .header; sums = plus (b
 unfoldable pub bookAfter : State → Line → Book
 bookAfter s l = bookWith (refusalIn s l) (s .book) (share (termsIn s) (lineContent l))
 
+-- and its table of cells after data of a line that met the refusal n
+abbrev pub tableWith : ℕ → Terms → Content → List ℕ → List ℕ
+tableWith n t c cells = pick (eqb n 0) (cellsWith t c cells) cells
+
+unfoldable pub cellsAfter : State → Line → List ℕ
+cellsAfter s l = tableWith (refusalIn s l) (termsIn s) (lineContent l) (s .cells)
+
 unfoldable pub feedingLine : State → Line → Answer
-feedingLine s l = record { refusal = refusalIn s l; state = stateAt (bookAfter s l) (s .rates) }
+feedingLine s l = record { refusal = refusalIn s l; state = stateAt (bookAfter s l) (s .rates) (cellsAfter s l) }
 
 abbrev pub feeding : State → List ℕ → Answer
 feeding s line = feedingLine s (lineOf line)
@@ -104,6 +115,7 @@ pub record SoundBook (b : Book) : Type 0 where
 pub record Sound (s : State) : Type 0 where
   pub book : SoundBook (s .book)
   pub rates : RatesInRange (s .rates)
+  pub cells : CellsBounded (s .cells) (4 * s .book .sums .counts .loans)
 
 -- Closing, which writes a text into a buffer of at least so many bytes
 
@@ -139,3 +151,16 @@ closing b size = closingWith reportSize b (reportOf b) size
 
 abbrev pub closed : Book → List ℕ → List ℕ
 closed b buffer = closedWith reportSize b (reportOf b) buffer
+
+-- 02, L1: the table of cells, for which 8,192 bytes are asked
+abbrev pub cellsSize : ℕ
+cellsSize = 8192
+
+abbrev pub cellsTextOf : List ℕ → List ℕ
+cellsTextOf cells = cellsText (cellAt cells)
+
+abbrev pub closingCells : Book → (cells : List ℕ) → (size : ℕ) → Closed
+closingCells b cells size = closingWith cellsSize b (cellsTextOf cells) size
+
+abbrev pub closedCells : Book → (cells buffer : List ℕ) → List ℕ
+closedCells b cells buffer = closedWith cellsSize b (cellsTextOf cells) buffer

@@ -8,13 +8,15 @@ use lib.ListN.{length}
 use Rattle.figures.specs.Sums.{noSums}
 use Rattle.loan_charge.specs.CreditFactor.{builtInRates}
 use Rattle.book_model.specs.declared.Book.{Book}
-use Rattle.book_model.specs.Calls.{State, SoundBook, Sound, opening, feeding, reportOf, closing, closed}
+use Rattle.book_model.specs.Calls.{State, SoundBook, Sound, opening, feeding, reportOf, closing, closed, cellsTextOf, closingCells, closedCells}
+use Rattle.book_model.specs.Cells.{noCells}
 
--- The value of a refused opening: an all-zero header and no line taken, under the regulator's table.
+-- The value of a refused opening: an all-zero header and no line taken, under the regulator's table, and no loan in any cell.
 abbrev pub refusedState : State
 refusedState = record {
   book = record { header = record { loans = 0; unscored = 0; aged = false; held = 0 }; sums = noSums };
   rates = builtInRates;
+  cells = noCells;
 }
 
 pub record Demand1 : Type 0 where
@@ -22,12 +24,17 @@ pub record Demand1 : Type 0 where
   pub opening-numbers : (line : List ℕ) → List·Memᴰ (opening line .refusal) (0 ∷ 1 ∷ 2 ∷ 7 ∷ 3 ∷ 4 ∷ [])
   pub feeding-numbers : (s : State) (line : List ℕ) → List·Memᴰ (feeding s line .refusal) (0 ∷ 1 ∷ 2 ∷ 7 ∷ 3 ∷ 5 ∷ 8 ∷ [])
   pub closing-numbers : (b : Book) (size : ℕ) → List·Memᴰ (closing b size .refusal) (0 ∷ 6 ∷ 9 ∷ [])
-  -- Refused, an opening gives no book but the value above, a feeding the same state, and a closing leaves every byte.
+  pub cells-numbers : (b : Book) (cells : List ℕ) (size : ℕ) → List·Memᴰ (closingCells b cells size .refusal) (0 ∷ 6 ∷ 9 ∷ [])
+  -- Refused, an opening gives no book but the value above, a feeding the same state, every place of its tables included, and a closing
+  -- leaves every byte.
   pub refused-opening : (line : List ℕ) → (opening line .refusal ≡ 0 → ⊥) → opening line .state ≡ refusedState
   pub refused-feeding : (s : State) (line : List ℕ) → (feeding s line .refusal ≡ 0 → ⊥) → feeding s line .state ≡ s
   pub refused-closing : (b : Book) (buffer : List ℕ) → (closing b (length buffer) .refusal ≡ 0 → ⊥) → closed b buffer ≡ buffer
-  -- The longest report fits the least buffer that closing takes.
+  pub refused-cells : (b : Book) (cells buffer : List ℕ) → (closingCells b cells (length buffer) .refusal ≡ 0 → ⊥) →
+      closedCells b cells buffer ≡ buffer
+  -- The longest text fits the least buffer that its closing takes.
   pub report-fits : (b : Book) → SoundBook b → length (reportOf b) ≤ 512
+  pub cells-fit : (s : State) → Sound s → length (cellsTextOf (s .cells)) ≤ 8192
   -- What a call gives may be handed to the next.
   pub opening-sound : (line : List ℕ) → Sound (opening line .state)
   pub feeding-sound : (s : State) (line : List ℕ) → Sound s → Sound (feeding s line .state)

@@ -17,7 +17,7 @@ use Rattle.line_forms.specs.Contents.{inRange}
 use Rattle.line_forms.specs.Claims.{Shows, ShowsInRange, AfterHeader, NoBytes}
 use Rattle.figures.specs.declared.Counts.{Counts}
 use Rattle.book_model.specs.Accepted.{Accepted, countsIn}
-use Rattle.book_model.specs.Calls.{Answer, emptyState, opening, feeding, closing}
+use Rattle.book_model.specs.Calls.{Answer, emptyState, opening, feeding, closing, closingCells}
 use Rattle.book_model.specs.Demand3.{afterLines}
 use Rattle.book_model.specs.History.{opened, allFed, termsOf, acceptedOf}
 use Rattle.book_model.specs.LineKinds.{lineCounts}
@@ -96,3 +96,6 @@ pub record Demand2 : Type 0 where
   pub closings : (header : List ℕ) (lines : List (List ℕ)) (size : ℕ) →
       ClosingAnswer 512 (termsOf (opened header)) (acceptedOf (allFed (opened header) lines)) size
       (closing (afterLines (opening header .state) lines .book) size .refusal)
+  pub cells-closings : (header : List ℕ) (lines : List (List ℕ)) (size : ℕ) →
+      ClosingAnswer 8192 (termsOf (opened header)) (acceptedOf (allFed (opened header) lines)) size
+      (closingCells (afterLines (opening header .state) lines .book) (afterLines (opening header .state) lines .cells) size .refusal)

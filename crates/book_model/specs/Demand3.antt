@@ -14,6 +14,7 @@ use Rattle.report.specs.Decimal.{digits, valueOf}
 use Rattle.report.specs.Line.{line, onto}
 use Rattle.book_report.specs.Report.{reportText}
 use Rattle.book_model.specs.declared.Book.{Book}
+use Rattle.book_model.specs.declared.Closed.{Closed}
 use Rattle.book_model.specs.Accepted.{Accepted, countsIn, refusalOf, accept}
 use Rattle.book_model.specs.Calls.{State, opening, feeding, closing, closed, closingRefusal, reportSize}
 use Rattle.book_model.specs.Exact.{exactRest, exactMoved, requirement}
@@ -43,18 +44,24 @@ hundredthsOnce = 300
 abbrev pub allowance : ℕ → Fraction
 allowance loans = quotient (hundredthsPerLoan * loans + hundredthsOnce) 100
 
+-- What a closing does that writes a text where `least` bytes are asked and the lines `a` are taken under terms t: `answer` is what it
+-- answers by the buffer's size, `left` the buffer as it leaves it.
+pub record Writes (least : ℕ) (t : Terms) (a : Accepted) (text : List ℕ) (answer : ℕ → Closed) (left : List ℕ → List ℕ) : Type 0 where
+  -- It is refused exactly by 6 or 9, where 6 counts the lines taken;
+  pub refusal : (size : ℕ) → answer size .refusal ≡ closingRefusal least (t .header) (countsIn (a .kept)) size
+  -- refused, it leaves every byte as it was; any other writes the text and tells its length.
+  pub untouched : (buffer : List ℕ) → (answer (length buffer) .refusal ≡ 0 → ⊥) → left buffer ≡ buffer
+  pub written : (buffer : List ℕ) → answer (length buffer) .refusal ≡ 0 → left buffer ≡ onto buffer text
+  pub told : (size : ℕ) → answer size .refusal ≡ 0 → answer size .length ≡ length text
+
 -- What holds of a state under terms t with the lines `a` taken.
 pub record Closes (t : Terms) (a : Accepted) (s : State) : Type 0 where
   -- The next feeding answers what the accepted lines say.
   pub answers : (line : List ℕ) → feeding s line .refusal ≡ refusalOf t a line
   -- It takes a line exactly when the list of accepted lines grows by it.
   pub taken : (line : List ℕ) → (feeding s line .refusal ≡ 0) ↔ (accept t a line .kept ≡ a .kept ++ (line ∷ []))
-  -- Closing is refused exactly by 6 or 9, where 6 counts the lines taken;
-  pub refusal : (size : ℕ) → closing (s .book) size .refusal ≡ closingRefusal reportSize (t .header) (countsIn (a .kept)) size
-  -- refused, it leaves every byte as it was; any other writes the report of the lines taken and tells its length.
-  pub untouched : (buffer : List ℕ) → (closing (s .book) (length buffer) .refusal ≡ 0 → ⊥) → closed (s .book) buffer ≡ buffer
-  pub report : (buffer : List ℕ) → closing (s .book) (length buffer) .refusal ≡ 0 → closed (s .book) buffer ≡ onto buffer (reportFor t (a .kept))
-  pub told : (size : ℕ) → closing (s .book) size .refusal ≡ 0 → closing (s .book) size .length ≡ length (reportFor t (a .kept))
+  -- Closing writes the report of the lines taken.
+  pub report : Writes reportSize t a (reportFor t (a .kept)) (closing (s .book)) (closed (s .book))
 
 -- What holds of the required amount of the lines taken.
 pub record Measured (t : Terms) (kept : List (List ℕ)) : Type 0 where
@@ -73,12 +80,15 @@ pub record Measured (t : Terms) (kept : List (List ℕ)) : Type 0 where
   pub orders : SomeAllowed (requirement t kept .exponents)
   pub determined : Determined (requirement t kept)
 
--- Two closings that write a report: lengths and bytes are the same, whatever the buffers' sizes and contents.
+-- Two closings that write: lengths and bytes are the same, whatever the buffers' sizes and contents.
+abbrev pub SameTexts : (answer : ℕ → Closed) (left : List ℕ → List ℕ) (other : ℕ → Closed) (left-other : List ℕ → List ℕ) → Type 0
+SameTexts answer left other left-other =
+    (x y : List ℕ) → answer (length x) .refusal ≡ 0 → other (length y) .refusal ≡ 0 →
+    (answer (length x) .length ≡ other (length y) .length)
+    × (take (answer (length x) .length) (left x) ≡ take (other (length y) .length) (left-other y))
+
 abbrev pub SameReports : Book → Book → Type 0
-SameReports b c =
-    (x y : List ℕ) → closing b (length x) .refusal ≡ 0 → closing c (length y) .refusal ≡ 0 →
-    (closing b (length x) .length ≡ closing c (length y) .length)
-    × (take (closing b (length x) .length) (closed b x) ≡ take (closing c (length y) .length) (closed c y))
+SameReports b c = SameTexts (closing b) (closed b) (closing c) (closed c)
 
 -- The claim, for a header line and a list of lines. (A header that is refused gives the value of an all-zero header, of which it holds too.)
 pub record Demand3 (header : List ℕ) (lines : List (List ℕ)) : Type 0 where

@@ -1,5 +1,6 @@
 pub mod Accepted
 pub mod Calls
+pub mod Cells
 pub mod Demand1
 pub mod Demand2
 pub mod Demand3
@@ -7,6 +8,7 @@ pub mod Examples
 pub mod Exact
 pub mod History
 pub mod LineKinds
+pub mod LoanTable
 pub mod Ranges
 pub mod Requirement
 pub mod Share

@@ -16,6 +16,7 @@ use Rattle.line_forms.specs.declared.HeaderLine.the-variants.{Header as HeaderR
 pub record LoanRanges (l : Loan) : Type 0 where
   pub balance-least : 1 ≤ l .balance
   pub balance-most : l .balance ≤ 200000000
+  pub value-most : l .value ≤ 10000000000
   pub months-least : 1 ≤ l .amortization
   pub months-most : l .amortization ≤ 480
 

@@ -1,10 +1,10 @@
 -- What is printed where the lines end, by cases. Assumes nothing.
 use mathlib.Core.Path.{_≡_, refl, sym, _∙_, ap}
 use mathlib.Core.Bool.{Bool, true, false}
-use mathlib.Core.List.{List, [], _∷_}
-use Prim.Native.Nat.{ℕ, _≤_, _<_}
+use mathlib.Core.List.{List, [], _∷_, _++_}
+use Prim.Native.Nat.{ℕ, _+_, _-_, _≤_, _<_}
 use native.Mathlib.Omega.{arith}
-use lib.ListN.{length, drop, length-append}
+use lib.ListN.{length, take, drop, length-append}
 use borrow.Author.Tests.{eq-eqb, ne-eqb, le-ltb}
 use Rattle.exact.specs.Choice.{pick}
 use Rattle.exact.specs.Text.{text}
@@ -12,10 +12,14 @@ use Rattle.report.specs.Decimal.{digits}
 use Rattle.report.specs.Line.{refusalLine, onto, Written}
 use Rattle.report.proofs.Decimal.{digits-length}
 use Rattle.report.proofs.Lines.{two-length}
+use Rattle.report.proofs.Onto.{written-more}
+use Rattle.book_model.specs.declared.Book.{Book}
 use Rattle.book_model.specs.declared.Closed.{Closed}
-use Rattle.book_model.specs.Calls.{State, tooFew, closingWith, closing, closed, reportSize, reportOf}
-use Rattle.book_model.proofs.Closings.{untouched, writes, tells}
-use Rattle.driver.specs.Printed.{printedFor, printedAtEnd, endedWith}
+use Rattle.book_model.specs.Calls.{State, tooFew, closingWith, closing, closed, reportSize, reportOf, cellsSize, cellsTextOf, closingCells, closedCells}
+use Rattle.book_model.specs.Calls.{SoundBook}
+use Rattle.book_model.proofs.Closings.{not-refused, untouched, writes, tells}
+use Rattle.book_model.proofs.Demand1.{demand1}
+use Rattle.driver.specs.Printed.{withTable, printedFor, printedAtEnd, endedWith}
 use Rattle.driver.specs.Reading.{Stage, withLine}
 
 -- a refusal's line fits any buffer for a report
@@ -24,51 +28,84 @@ pub refusal-room : (refusal number size : ℕ) → refusal < 1844674407370955161
 refusal-room refusal number size h k room =
     omega (arith, two-length (text "refused") (digits refusal) (digits number), digits-length 19 refusal (omega arith), digits-length 19 number (omega arith))
 
-module _ (p : Stage) where
-  pub printed-refused : (p .refusal ≡ 0 → ⊥) → printedFor p ≡ refusalLine (p .refusal) (p .number)
+module _ (asked : Bool) (p : Stage) where
+  pub printed-refused : (p .refusal ≡ 0 → ⊥) → printedFor asked p ≡ refusalLine (p .refusal) (p .number)
   unfolding printedFor
   printed-refused h = rw (ne-eqb (p .refusal) 0 h) refl
 
-  pub printed-empty : p .refusal ≡ 0 → p .number ≡ 1 → printedFor p ≡ refusalLine 2 1
+  pub printed-empty : p .refusal ≡ 0 → p .number ≡ 1 → printedFor asked p ≡ refusalLine 2 1
   unfolding printedFor
   printed-empty e f = rw (eq-eqb (p .refusal) 0 e, eq-eqb (p .number) 1 f) refl
 
-  pub printed-end : p .refusal ≡ 0 → (p .number ≡ 1 → ⊥) → printedFor p ≡ printedAtEnd (p .state) (p .number)
+  pub printed-end : p .refusal ≡ 0 → (p .number ≡ 1 → ⊥) → printedFor asked p ≡ printedAtEnd asked (p .state) (p .number)
   unfolding printedFor
   printed-end e f = rw (eq-eqb (p .refusal) 0 e, ne-eqb (p .number) 1 f) refl
 
-module _ (s : State) (out : List ℕ) (room : reportSize ≤ length out) where
-  -- the report's room is there, so a closing is refused by 6 or not at all
+-- a report is short enough to leave the table its room
+pub report-room : (b : Book) → SoundBook b → (out : List ℕ) {c : Closed} → c ≡ closing b (length out) → c .refusal ≡ 0 → c .length ≤ reportSize
+report-room b sound out e h =
+    let n = tells reportSize b (reportOf b) (length out) (sym (ap (λ (x : Closed). x .refusal) e) ∙ h) in
+    omega (arith, ap (λ (x : Closed). x .length) e ∙ n, demand1 .report-fits b sound)
+
+-- Closing a book with room for both texts, which is refused by 6 or not at all.
+module _ (asked : Bool) (s : State) (out : List ℕ) (room : reportSize + cellsSize ≤ length out) where
   by-six : (t : Bool) → tooFew (s .book .header) (s .book .sums .counts) ≡ t → closing (s .book) (length out) .refusal ≡ pick t 6 0
   unfolding closingWith
-  by-six t e = rw (e, le-ltb (length out) reportSize room) refl
+  by-six t e = rw (e, le-ltb (length out) reportSize (omega arith)) refl
 
   pub closing-refused : {c : Closed} {after : List ℕ} → c ≡ closing (s .book) (length out) → after ≡ closed (s .book) out → (c .refusal ≡ 0 → ⊥) → (after ≡ out)
-      × ((n : ℕ) → printedAtEnd s n ≡ refusalLine 6 n)
+      × ((n : ℕ) → printedAtEnd asked s n ≡ refusalLine 6 n)
   unfolding printedAtEnd
   closing-refused {c} {after} e f h = (
     f ∙ untouched reportSize (s .book) (reportOf (s .book)) out (λ z. h (ap (λ (x : Closed). x .refusal) e ∙ z)),
     λ n. go n (tooFew (s .book .header) (s .book .sums .counts)) refl,
   )
     where
-      go : (n : ℕ) (t : Bool) → tooFew (s .book .header) (s .book .sums .counts) ≡ t → pick t (refusalLine 6 n) (reportOf (s .book)) ≡ refusalLine 6 n
+      go : (n : ℕ) (t : Bool) → tooFew (s .book .header) (s .book .sums .counts) ≡ t →
+          pick t (refusalLine 6 n) (withTable asked (reportOf (s .book)) (cellsTextOf (s .cells))) ≡ refusalLine 6 n
       go n true k = refl
       go n false k = absurd (h (ap (λ (x : Closed). x .refusal) e ∙ by-six false k))
 
-  pub closing-written : {c : Closed} {after : List ℕ} → c ≡ closing (s .book) (length out) → after ≡ closed (s .book) out → c .refusal ≡ 0 → (n : ℕ) →
-      Written out (printedAtEnd s n) (c .length) after
-  unfolding printedAtEnd
-  closing-written {c} {after} e f h n = go (tooFew (s .book .header) (s .book .sums .counts)) refl
-    where
-      zero : closing (s .book) (length out) .refusal ≡ 0
-      zero = sym (ap (λ (x : Closed). x .refusal) e) ∙ h
+  -- not refused: there are enough loans, and the report is written, with room for the table after it
+  module _ {c : Closed} {after : List ℕ} (e : c ≡ closing (s .book) (length out)) (f : after ≡ closed (s .book) out) (h : c .refusal ≡ 0) where
+    zero : closing (s .book) (length out) .refusal ≡ 0
+    zero = sym (ap (λ (x : Closed). x .refusal) e) ∙ h
 
-      go : (t : Bool) → tooFew (s .book .header) (s .book .sums .counts) ≡ t → Written out (pick t (refusalLine 6 n) (reportOf (s .book))) (c .length) after
-      go true k = absurd (omega (arith, zero, by-six true k))
-      go false k = record {
-        count = ap (λ (x : Closed). x .length) e ∙ tells reportSize (s .book) (reportOf (s .book)) (length out) zero;
-        bytes = f ∙ writes reportSize (s .book) (reportOf (s .book)) out zero;
-      }
+    pub closing-enough : tooFew (s .book .header) (s .book .sums .counts) ≡ false
+    closing-enough = go (tooFew (s .book .header) (s .book .sums .counts)) refl
+      where
+        go : (t : Bool) → tooFew (s .book .header) (s .book .sums .counts) ≡ t → t ≡ false
+        go true k = absurd (omega (arith, zero, by-six true k))
+        go false k = refl
+
+    report-written : Written out (reportOf (s .book)) (c .length) after
+    report-written = record {
+      count = ap (λ (x : Closed). x .length) e ∙ tells reportSize (s .book) (reportOf (s .book)) (length out) zero;
+      bytes = f ∙ writes reportSize (s .book) (reportOf (s .book)) out zero;
+    }
+
+    at-end : (n : ℕ) → printedAtEnd asked s n ≡ withTable asked (reportOf (s .book)) (cellsTextOf (s .cells))
+    unfolding printedAtEnd
+    at-end n = rw closing-enough refl
+
+    pub report-alone : asked ≡ false → (n : ℕ) → Written out (printedAtEnd asked s n) (c .length) after
+    report-alone q n = rw (at-end n, q) report-written
+
+    -- the table is written to what remains after the report
+    pub report-and-table : asked ≡ true → (n : ℕ) {r : ℕ} {ys : List ℕ} →
+        Written (take (length after - c .length) (drop (c .length) after)) (cellsTextOf (s .cells)) r ys →
+        Written out (printedAtEnd asked s n) (c .length + r) (take (c .length) after ++ (ys ++ drop (length after - c .length) (drop (c .length) after)))
+    report-and-table q n w = rw (at-end n, q) (written-more report-written w)
+
+-- the second closing is not refused where there are enough loans and room
+pub table-written : (b : Book) (cells out : List ℕ) → tooFew (b .header) (b .sums .counts) ≡ false → cellsSize ≤ length out → {c : Closed} {after : List ℕ} →
+    c ≡ closingCells b cells (length out) → after ≡ closedCells b cells out → Written out (cellsTextOf cells) (c .length) after
+table-written b cells out few room e f =
+    let z : closingCells b cells (length out) .refusal ≡ 0 = not-refused cellsSize b (cellsTextOf cells) (length out) few room in
+    record {
+      count = ap (λ (x : Closed). x .length) e ∙ tells cellsSize b (cellsTextOf cells) (length out) z;
+      bytes = f ∙ writes cellsSize b (cellsTextOf cells) out z;
+    }
 
 -- the end of the input ends a line that has bytes
 pub ended-line : (p : Stage) (line : List ℕ) → 1 ≤ length line → endedWith p line ≡ withLine p line

@@ -84,49 +84,49 @@ refused-lines p [] h = refl
 refused-lines p (line ∷ lines) h = ap (λ (q : Stage). withLines q lines) (sym (line-refused p line h)) ∙ refused-lines p lines h
 
 -- after a line of this number that got this answer
-answered-lines : (a : Answer) (number : ℕ) (lines : List (List ℕ)) →
-    printedFor (withLines (after a number) lines) ≡ pick (eqb (a .refusal) 0)
-    (printedFor (withLines (record { refusal = 0; number = number + 1; state = a .state }) lines)) (refusalLine (a .refusal) number)
-answered-lines a number lines = go (eqb (a .refusal) 0) refl
+answered-lines : (asked : Bool) (a : Answer) (number : ℕ) (lines : List (List ℕ)) →
+    printedFor asked (withLines (after a number) lines) ≡ pick (eqb (a .refusal) 0)
+    (printedFor asked (withLines (record { refusal = 0; number = number + 1; state = a .state }) lines)) (refusalLine (a .refusal) number)
+answered-lines asked a number lines = go (eqb (a .refusal) 0) refl
   where
     go : (t : Bool) → eqb (a .refusal) 0 ≡ t →
-        printedFor (withLines (record { refusal = a .refusal; number = pick t (number + 1) number; state = a .state }) lines)
-        ≡ pick t (printedFor (withLines (record { refusal = 0; number = number + 1; state = a .state }) lines)) (refusalLine (a .refusal) number)
-    go true e = ap (λ (r : ℕ). printedFor (withLines (record { refusal = r; number = number + 1; state = a .state }) lines)) (eqb-true (a .refusal) 0 e)
+        printedFor asked (withLines (record { refusal = a .refusal; number = pick t (number + 1) number; state = a .state }) lines)
+        ≡ pick t (printedFor asked (withLines (record { refusal = 0; number = number + 1; state = a .state }) lines)) (refusalLine (a .refusal) number)
+    go true e = ap (λ (r : ℕ). printedFor asked (withLines (record { refusal = r; number = number + 1; state = a .state }) lines)) (eqb-true (a .refusal) 0 e)
     go false e =
-        ap printedFor (refused-lines (record { refusal = a .refusal; number = number; state = a .state }) lines (eqb-false (a .refusal) 0 e))
-        ∙ printed-refused (record { refusal = a .refusal; number = number; state = a .state }) (eqb-false (a .refusal) 0 e)
+        ap (printedFor asked) (refused-lines (record { refusal = a .refusal; number = number; state = a .state }) lines (eqb-false (a .refusal) 0 e))
+        ∙ printed-refused asked (record { refusal = a .refusal; number = number; state = a .state }) (eqb-false (a .refusal) 0 e)
 
-feeding-lines : (lines : List (List ℕ)) (s : State) (number : ℕ) → 2 ≤ number →
-    printedFor (withLines (record { refusal = 0; number = number; state = s }) lines) ≡ printedFeeding s number lines
+feeding-lines : (asked : Bool) (lines : List (List ℕ)) (s : State) (number : ℕ) → 2 ≤ number →
+    printedFor asked (withLines (record { refusal = 0; number = number; state = s }) lines) ≡ printedFeeding asked s number lines
 unfolding withLines printedFeeding
-feeding-lines [] s number h = printed-end (record { refusal = 0; number = number; state = s }) refl (λ e. omega arith)
-feeding-lines (line ∷ lines) s number h =
-    ap (λ (q : Stage). printedFor (withLines q lines)) (sym (line-fed (record { refusal = 0; number = number; state = s }) line refl (λ e. omega arith)))
-    ∙ answered-lines (feeding s line) number lines
+feeding-lines asked [] s number h = printed-end asked (record { refusal = 0; number = number; state = s }) refl (λ e. omega arith)
+feeding-lines asked (line ∷ lines) s number h =
+    ap (λ (q : Stage). printedFor asked (withLines q lines)) (sym (line-fed (record { refusal = 0; number = number; state = s }) line refl (λ e. omega arith)))
+    ∙ answered-lines asked (feeding s line) number lines
     ∙ ap (λ (x : List ℕ). pick (eqb (feeding s line .refusal) 0) x (refusalLine (feeding s line .refusal) number))
-    (feeding-lines lines (feeding s line .state) (number + 1) (omega arith))
+    (feeding-lines asked lines (feeding s line .state) (number + 1) (omega arith))
 
-start-lines : (lines : List (List ℕ)) → printedFor (withLines atStart lines) ≡ printedLines lines
+start-lines : (asked : Bool) (lines : List (List ℕ)) → printedFor asked (withLines atStart lines) ≡ printedLines asked lines
 unfolding withLines printedLines
-start-lines [] = printed-empty atStart refl refl
-start-lines (line ∷ lines) =
-    ap (λ (q : Stage). printedFor (withLines q lines)) (sym (line-opens atStart line refl refl))
-    ∙ answered-lines (opening line) 1 lines
+start-lines asked [] = printed-empty asked atStart refl refl
+start-lines asked (line ∷ lines) =
+    ap (λ (q : Stage). printedFor asked (withLines q lines)) (sym (line-opens atStart line refl refl))
+    ∙ answered-lines asked (opening line) 1 lines
     ∙ ap (λ (x : List ℕ). pick (eqb (opening line .refusal) 0) x (refusalLine (opening line .refusal) 1))
-    (feeding-lines lines (opening line .state) 2 (omega arith))
+    (feeding-lines asked lines (opening line .state) 2 (omega arith))
 
 -- What is printed is a function of the whole input.
-pub whole : (input : List ℕ) → printedFor (ended (withBytes fromStart input)) ≡ printed input
-whole input = ap printedFor (bytes-lines input atStart []) ∙ start-lines (linesOf input)
+pub whole : (asked : Bool) (input : List ℕ) → printedFor asked (ended (withBytes fromStart input)) ≡ printed asked input
+whole asked input = ap (printedFor asked) (bytes-lines input atStart []) ∙ start-lines asked (linesOf input)
 
 -- After a refusal the rest of the input changes nothing.
-refused-stays : (input : List ℕ) (s : Reading) → (s .stage .refusal ≡ 0 → ⊥) → printedFor (ended (withBytes s input)) ≡ printedFor (s .stage)
+refused-stays : (asked : Bool) (input : List ℕ) (s : Reading) → (s .stage .refusal ≡ 0 → ⊥) → printedFor asked (ended (withBytes s input)) ≡ printedFor asked (s .stage)
 unfolding withBytes
-refused-stays [] s h = ap printedFor (refused-ended (s .stage) (s .tail) h)
-refused-stays (byte ∷ bytes) s h =
+refused-stays asked [] s h = ap (printedFor asked) (refused-ended (s .stage) (s .tail) h)
+refused-stays asked (byte ∷ bytes) s h =
     let e : withByte s byte .stage ≡ s .stage = refused-byte s byte h in
-    refused-stays bytes (withByte s byte) (λ z. h (ap (λ (p : Stage). p .refusal) (sym e) ∙ z)) ∙ ap printedFor e
+    refused-stays asked bytes (withByte s byte) (λ z. h (ap (λ (p : Stage). p .refusal) (sym e) ∙ z)) ∙ ap (printedFor asked) e
 
 -- A line over 240 bytes is refused whatever follows, or a line before it was.
 long-refused : (p : Stage) (line : List ℕ) → 240 < length line → withLine p line .refusal ≡ 0 → ⊥
@@ -144,21 +144,21 @@ unfolding endedWith
 ended-long p [] h = absurd (omega arith)
 ended-long p (byte ∷ line) h = refl
 
-long-stays : (input : List ℕ) (p : Stage) (line : List ℕ) → 240 < length line → length line ≤ 241 →
-    printedFor (ended (withBytes (record { stage = p; tail = line }) input)) ≡ printedFor (withLine p line)
+long-stays : (asked : Bool) (input : List ℕ) (p : Stage) (line : List ℕ) → 240 < length line → length line ≤ 241 →
+    printedFor asked (ended (withBytes (record { stage = p; tail = line }) input)) ≡ printedFor asked (withLine p line)
 unfolding withBytes withByte
-long-stays [] p line h k = ap printedFor (ended-long p line h)
-long-stays (byte ∷ bytes) p line h k = go (eqb byte newline) (long-stays bytes p line h k)
+long-stays asked [] p line h k = ap (printedFor asked) (ended-long p line h)
+long-stays asked (byte ∷ bytes) p line h k = go (eqb byte newline) (long-stays asked bytes p line h k)
   where
     -- the line stays as it is, of which 241 bytes are held
     same : withTail line (byte ∷ []) ≡ line
     same = take-append-le 241 line (byte ∷ []) (omega arith) ∙ take-all 241 line k
 
-    go : (t : Bool) → printedFor (ended (withBytes (record { stage = p; tail = line }) bytes)) ≡ printedFor (withLine p line) →
-        printedFor (ended (withBytes (pick {A = Reading} t (record { stage = withLine p line; tail = [] })
-        (record { stage = p; tail = withTail line (byte ∷ []) })) bytes)) ≡ printedFor (withLine p line)
-    go true ih = refused-stays bytes (record { stage = withLine p line; tail = [] }) (long-refused p line h)
-    go false ih = ap (λ (l : List ℕ). printedFor (ended (withBytes (record { stage = p; tail = l }) bytes))) same ∙ ih
+    go : (t : Bool) → printedFor asked (ended (withBytes (record { stage = p; tail = line }) bytes)) ≡ printedFor asked (withLine p line) →
+        printedFor asked (ended (withBytes (pick {A = Reading} t (record { stage = withLine p line; tail = [] })
+        (record { stage = p; tail = withTail line (byte ∷ []) })) bytes)) ≡ printedFor asked (withLine p line)
+    go true ih = refused-stays asked bytes (record { stage = withLine p line; tail = [] }) (long-refused p line h)
+    go false ih = ap (λ (l : List ℕ). printedFor asked (ended (withBytes (record { stage = p; tail = l }) bytes))) same ∙ ih
 
 -- no more than 241 bytes are held
 held-few : (input : List ℕ) (s : Reading) → length (s .tail) ≤ 241 → length (withBytes s input .tail) ≤ 241
@@ -171,11 +171,11 @@ held-few (byte ∷ bytes) s h = held-few bytes (withByte s byte) (go (eqb byte n
     go true = omega arith
     go false = rw (length-take 241 (s .tail ++ (byte ∷ []))) (omega arith)
 
-pub settled : (s : Reading) → length (s .tail) ≤ 241 → Settled s → (more : List ℕ) → printedFor (ended (withBytes s more)) ≡ printedFor (ended s)
-settled s k h more = ⊎-elim (λ r. refused-stays more s r ∙ sym (ap printedFor (refused-ended (s .stage) (s .tail) r)))
-    (λ l. long-stays more (s .stage) (s .tail) l k ∙ sym (ap printedFor (ended-long (s .stage) (s .tail) l))) h
+pub settled : (asked : Bool) (s : Reading) → length (s .tail) ≤ 241 → Settled s → (more : List ℕ) → printedFor asked (ended (withBytes s more)) ≡ printedFor asked (ended s)
+settled asked s k h more = ⊎-elim (λ r. refused-stays asked more s r ∙ sym (ap (printedFor asked) (refused-ended (s .stage) (s .tail) r)))
+    (λ l. long-stays asked more (s .stage) (s .tail) l k ∙ sym (ap (printedFor asked) (ended-long (s .stage) (s .tail) l))) h
 
-pub stops : (input more : List ℕ) → Settled (withBytes fromStart input) → printed (input ++ more) ≡ printed input
-stops input more h =
-    sym (whole (input ++ more)) ∙ ap (λ (x : Reading). printedFor (ended x)) (bytes-append fromStart input more)
-    ∙ settled (withBytes fromStart input) (held-few input fromStart (omega arith)) h more ∙ whole input
+pub stops : (asked : Bool) (input more : List ℕ) → Settled (withBytes fromStart input) → printed asked (input ++ more) ≡ printed asked input
+stops asked input more h =
+    sym (whole asked (input ++ more)) ∙ ap (λ (x : Reading). printedFor asked (ended x)) (bytes-append fromStart input more)
+    ∙ settled asked (withBytes fromStart input) (held-few input fromStart (omega arith)) h more ∙ whole asked input

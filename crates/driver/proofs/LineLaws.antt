@@ -11,6 +11,7 @@ use Rattle.loan_charge.specs.CreditFactor.{builtInRates}
 use Rattle.line_forms.specs.declared.HeaderLine.{HeaderLine}
 use Rattle.line_forms.specs.declared.HeaderLine.the-variants.{Header as HeaderRead, Refusal as HeaderRefusal}
 use Rattle.line_forms.specs.Readings.{headerOf}
+use Rattle.book_model.specs.declared.Book.{Book}
 use Rattle.book_model.specs.declared.Fed.{Fed}
 use Rattle.book_model.specs.declared.Opened.{Opened}
 use Rattle.book_model.specs.Calls.{State, Answer, stateAt, openedOf, fedOf, openingFor, opening, feedingLine, feeding, Sound}
@@ -70,45 +71,42 @@ unfolding feedingLine
 fed-rates s line = refl
 
 -- the stage of a progress that an answer gave
-answer-stage : (a : Answer) (rates : List ℕ) → a .state .rates ≡ rates → (number : ℕ) →
-    stageAt (progressAfter (a .refusal) number (a .state .book)) rates ≡ after a number
-answer-stage a rates e number = λ i. record {
-  refusal = a .refusal;
-  number = pick (eqb (a .refusal) 0) (number + 1) number;
-  state = record { book = a .state .book; rates = sym e i };
-}
+answer-stage : (a : Answer) (number : ℕ) {n : ℕ} {b : Book} {q : Progress} (rates cells : List ℕ) → q ≡ progressAfter n number b → n ≡ a .refusal →
+    b ≡ a .state .book → rates ≡ a .state .rates → cells ≡ a .state .cells → stageAt q rates cells ≡ after a number
+answer-stage a number {n} {b} {q} rates cells p e f g h =
+    ap (λ (x : Progress). stageAt x rates cells) p
+    ∙ (λ i. record { refusal = e i; number = pick (eqb (e i) 0) (number + 1) number; state = stateAt (f i) (g i) (h i) })
 
--- What end_line ensures: q is the progress it gives.
-abbrev pub Ended : Progress → List ℕ → List ℕ → Progress → Type 0
-Ended p rates line q = (stageAt q rates ≡ withLine (stageAt p rates) line) × (Sound (stateAt (q .book) rates) × (q .number ≤ p .number + 1))
+-- What end_line ensures: q is the stage it gives.
+abbrev pub Ended : Stage → List ℕ → Stage → Type 0
+Ended p line q = (q ≡ withLine p line) × (Sound (q .state) × (q .number ≤ p .number + 1))
 
-pub ended-by : (p : Progress) (rates line : List ℕ) (q : Progress) → Sound (stateAt (p .book) rates) → stageAt q rates ≡ withLine (stageAt p rates) line →
-    Ended p rates line q
-ended-by p rates line q h e = (
+pub ended-by : (p : Stage) (line : List ℕ) (q : Stage) → Sound (p .state) → q ≡ withLine p line → Ended p line q
+ended-by p line q h e = (
   e,
   (
-    subst (λ (x : Stage). Sound (x .state)) (sym e) (line-sound (stageAt p rates) line h),
-    subst (λ (x : Stage). x .number ≤ p .number + 1) (sym e) (line-number (stageAt p rates) line),
+    subst (λ (x : Stage). Sound (x .state)) (sym e) (line-sound p line h),
+    subst (λ (x : Stage). x .number ≤ p .number + 1) (sym e) (line-number p line),
   ),
 )
 
-module _ (p : Progress) (rates line : List ℕ) (sound : Sound (stateAt (p .book) rates)) where
-  pub ended-refused : (p .refusal ≡ 0 → ⊥) → Ended p rates line p
-  ended-refused h = ended-by p rates line p sound (line-refused (stageAt p rates) line h)
+-- q is the progress that it gives, and `after-cells` the table as the call left it
+module _ (p : Progress) (rates cells line : List ℕ) (sound : Sound (stateAt (p .book) rates cells)) where
+  pub ended-refused : (p .refusal ≡ 0 → ⊥) → Ended (stageAt p rates cells) line (stageAt p rates cells)
+  ended-refused h = ended-by (stageAt p rates cells) line (stageAt p rates cells) sound (line-refused (stageAt p rates cells) line h)
 
-  pub ended-opened : (o : Opened) {q : Progress} → rates ≡ builtInRates → p .refusal ≡ 0 → p .number ≡ 1 → o ≡ openedOf (opening line) →
-      q ≡ progressAfter (o .refusal) (p .number) (o .book) → Ended p rates line q
-  ended-opened o {q} t e f g h =
-      ended-by p rates line q sound
-      (ap (λ (x : Progress). stageAt x rates) h
-      ∙ ap (λ (x : Opened). stageAt (progressAfter (x .refusal) (p .number) (x .book)) rates) g
-      ∙ answer-stage (opening line) rates (opened-rates (headerOf line) ∙ sym t) (p .number) ∙ line-opens (stageAt p rates) line e f)
+  pub ended-opened : (o : Opened) (q : Progress) (after-cells : List ℕ) → rates ≡ builtInRates → p .refusal ≡ 0 → p .number ≡ 1 →
+      o ≡ openedOf (opening line) → after-cells ≡ opening line .state .cells → q ≡ progressAfter (o .refusal) (p .number) (o .book) →
+      Ended (stageAt p rates cells) line (stageAt q rates after-cells)
+  ended-opened o q after-cells t e f g k h =
+      ended-by (stageAt p rates cells) line (stageAt q rates after-cells) sound
+      (answer-stage (opening line) (p .number) rates after-cells h (ap (λ (x : Opened). x .refusal) g) (ap (λ (x : Opened). x .book) g)
+      (t ∙ sym (opened-rates (headerOf line))) k ∙ line-opens (stageAt p rates cells) line e f)
 
-  pub ended-fed : (o : Fed) {q : Progress} → p .refusal ≡ 0 → (p .number ≡ 1 → ⊥) → o ≡ fedOf (feeding (stateAt (p .book) rates) line) →
-      q ≡ progressAfter (o .refusal) (p .number) (o .book) → Ended p rates line q
-  ended-fed o {q} e f g h =
-      ended-by p rates line q sound
-      (ap (λ (x : Progress). stageAt x rates) h
-      ∙ ap (λ (x : Fed). stageAt (progressAfter (x .refusal) (p .number) (x .book)) rates) g
-      ∙ answer-stage (feeding (stateAt (p .book) rates) line) rates (fed-rates (stateAt (p .book) rates) line) (p .number)
-      ∙ line-fed (stageAt p rates) line e f)
+  pub ended-fed : (o : Fed) (q : Progress) (after-cells : List ℕ) → p .refusal ≡ 0 → (p .number ≡ 1 → ⊥) →
+      o ≡ fedOf (feeding (stateAt (p .book) rates cells) line) → after-cells ≡ feeding (stateAt (p .book) rates cells) line .state .cells →
+      q ≡ progressAfter (o .refusal) (p .number) (o .book) → Ended (stageAt p rates cells) line (stageAt q rates after-cells)
+  ended-fed o q after-cells e f g k h =
+      ended-by (stageAt p rates cells) line (stageAt q rates after-cells) sound
+      (answer-stage (feeding (stateAt (p .book) rates cells) line) (p .number) rates after-cells h (ap (λ (x : Fed). x .refusal) g)
+      (ap (λ (x : Fed). x .book) g) (sym (fed-rates (stateAt (p .book) rates cells) line)) k ∙ line-fed (stageAt p rates cells) line e f)

@@ -15,13 +15,15 @@ use Rattle.book_model.specs.Calls.{State, opening, feeding, tooFew}
 use Rattle.book_model.specs.Demand3.{reportFor}
 use Rattle.book_model.specs.Examples.{workedHeader, workedLines, workedReport}
 use Rattle.book_model.specs.History.{History, opened, fed, allFed, termsOf, acceptedOf, linesTaken}
+use Rattle.book_model.specs.LoanTable.{cellsFor}
 use Rattle.book_model.specs.Terms.{Terms}
 use Rattle.book_model.proofs.Closings.{few, enough}
 use Rattle.book_model.proofs.Demand2.{openings, feeding-answer}
 use Rattle.book_model.proofs.Demand3.{opened-is, terms-stay, report-is, report-permuted, measured-of, terms-in-range}
 use Rattle.book_model.proofs.Examples.{twelve, counts-none}
+use Rattle.book_model.proofs.LoanTable.{cells-text, cell-sums, cells-permuted}
 use Rattle.book_model.proofs.Steps.{stateOf, counts, step}
-use Rattle.driver.specs.Printed.{lastOf, linesFrom, linesOf, printedAtEnd, printedFeeding, printedLines, printed}
+use Rattle.driver.specs.Printed.{lastOf, linesFrom, linesOf, withTable, printedAtEnd, printedFeeding, printedLines, printed}
 use Rattle.driver.specs.Program.{AllTaken, Outcome, no-line, not-opened, not-taken, too-few, report, Reports, workedInput, Program}
 use Rattle.driver.proofs.Law.{stops}
 
@@ -64,42 +66,45 @@ fed-taken header before line z =
     ∙ (λ i. record { refusal = z i; state = stateOf (termsOf (opened header)) (accepted-more (termsOf (opened header)) before line z i) })
 
 -- what is printed at their end, from the lines alone
-abbrev atEnd : Terms → List (List ℕ) → ℕ → List ℕ
-atEnd t lines number = pick (tooFew (t .header) (countsIn lines)) (refusalLine 6 number) (reportFor t lines)
+abbrev atEnd : Bool → Terms → List (List ℕ) → ℕ → List ℕ
+atEnd asked t lines number = pick (tooFew (t .header) (countsIn lines)) (refusalLine 6 number) (withTable asked (reportFor t lines) (cellsFor t lines))
 
-end-is : (header : List ℕ) (lines : List (List ℕ)) (number : ℕ) → printedAtEnd (stateFor header lines) number ≡ atEnd (termsOf (opened header)) lines number
+end-is : (asked : Bool) (header : List ℕ) (lines : List (List ℕ)) (number : ℕ) → printedAtEnd asked (stateFor header lines) number ≡ atEnd asked (termsOf (opened header)) lines number
 unfolding printedAtEnd stateFor
-end-is header lines number =
-    ap₂ (λ (c : Counts) (r : List ℕ). pick (tooFew (termsOf (opened header) .header) c) (refusalLine 6 number) r) (counts (termsOf (opened header)) lines)
-    (report-is (termsOf (opened header)) lines)
+end-is asked header lines number =
+    let t : Terms = termsOf (opened header) in
+    ap₂ (λ (c : Counts) (r : List ℕ). pick (tooFew (t .header) c) (refusalLine 6 number) r) (counts t lines)
+    (ap₂ (withTable asked) (report-is t lines) (cells-text t lines))
 
-at-end : (header : List ℕ) (lines : List (List ℕ)) → AllTaken header lines → Outcome (header ∷ lines) (atEnd (termsOf (opened header)) lines (2 + length lines))
-at-end header lines h = go (tooFew (termsOf (opened header) .header) (countsIn lines)) refl
+at-end : (asked : Bool) (header : List ℕ) (lines : List (List ℕ)) → AllTaken header lines → Outcome asked (header ∷ lines) (atEnd asked (termsOf (opened header)) lines (2 + length lines))
+at-end asked header lines h = go (tooFew (termsOf (opened header) .header) (countsIn lines)) refl
   where
     go : (b : Bool) → tooFew (termsOf (opened header) .header) (countsIn lines) ≡ b →
-        Outcome (header ∷ lines) (pick b (refusalLine 6 (2 + length lines)) (reportFor (termsOf (opened header)) lines))
+        Outcome asked (header ∷ lines) (pick b (refusalLine 6 (2 + length lines))
+        (withTable asked (reportFor (termsOf (opened header)) lines) (cellsFor (termsOf (opened header)) lines)))
     go true e = too-few header lines h (few (termsOf (opened header) .header) (countsIn lines) .0 e)
     go false e =
         let k = enough (termsOf (opened header) .header) (countsIn lines) .0 e in
         report header lines h (k .0) (k .1) (measured-of (termsOf (opened header)) (terms-in-range (opened header)) lines)
+        (cell-sums (termsOf (opened header)) lines)
 
 -- and of lines after those
-feeding-on : (header : List ℕ) (before : List (List ℕ)) (lines : List (List ℕ)) → AllTaken header before → (number : ℕ) → number ≡ 2 + length before →
-    Outcome (header ∷ (before ++ lines)) (printedFeeding (stateFor header before) number lines)
+feeding-on : (asked : Bool) (header : List ℕ) (before : List (List ℕ)) (lines : List (List ℕ)) → AllTaken header before → (number : ℕ) → number ≡ 2 + length before →
+    Outcome asked (header ∷ (before ++ lines)) (printedFeeding asked (stateFor header before) number lines)
 unfolding printedFeeding stateFor
-feeding-on header before [] h number e = rw (append-nil before, e, end-is header before (2 + length before)) (at-end header before h)
-feeding-on header before (line ∷ lines) h number e =
+feeding-on asked header before [] h number e = rw (append-nil before, e, end-is asked header before (2 + length before)) (at-end asked header before h)
+feeding-on asked header before (line ∷ lines) h number e =
     rw (step (termsOf (opened header)) (record { kept = before }) line)
-    (go (eqb (refusalOf (termsOf (opened header)) (record { kept = before }) line) 0) refl (feeding-on header (before ++ (line ∷ [])) lines))
+    (go (eqb (refusalOf (termsOf (opened header)) (record { kept = before }) line) 0) refl (feeding-on asked header (before ++ (line ∷ [])) lines))
   where
     n : ℕ
     n = refusalOf (termsOf (opened header)) (record { kept = before }) line
 
     go : (b : Bool) → eqb n 0 ≡ b →
         (AllTaken header (before ++ (line ∷ [])) → (k : ℕ) → k ≡ 2 + length (before ++ (line ∷ [])) →
-        Outcome (header ∷ ((before ++ (line ∷ [])) ++ lines)) (printedFeeding (stateFor header (before ++ (line ∷ []))) k lines)) →
-        Outcome (header ∷ (before ++ (line ∷ lines)))
-        (pick b (printedFeeding (stateOf (termsOf (opened header)) (accept (termsOf (opened header)) (record { kept = before }) line)) (number + 1) lines)
+        Outcome asked (header ∷ ((before ++ (line ∷ [])) ++ lines)) (printedFeeding asked (stateFor header (before ++ (line ∷ []))) k lines)) →
+        Outcome asked (header ∷ (before ++ (line ∷ lines)))
+        (pick b (printedFeeding asked (stateOf (termsOf (opened header)) (accept (termsOf (opened header)) (record { kept = before }) line)) (number + 1) lines)
         (refusalLine n number))
     go true f ih =
         let z : n ≡ 0 = eqb-true n 0 f in
@@ -119,14 +124,14 @@ none-taken : (header : List ℕ) → opening header .refusal ≡ 0 → AllTaken 
 unfolding allFed acceptedOf
 none-taken header e = record { opens = e; taken = refl }
 
-outcome : (lines : List (List ℕ)) → Outcome lines (printedLines lines)
+outcome : (asked : Bool) (lines : List (List ℕ)) → Outcome asked lines (printedLines asked lines)
 unfolding printedLines
-outcome [] = no-line
-outcome (header ∷ lines) = rw (opened-state header) (go (eqb (opening header .refusal) 0) refl)
+outcome asked [] = no-line
+outcome asked (header ∷ lines) = rw (opened-state header) (go (eqb (opening header .refusal) 0) refl)
   where
     go : (b : Bool) → eqb (opening header .refusal) 0 ≡ b →
-        Outcome (header ∷ lines) (pick b (printedFeeding (stateFor header []) 2 lines) (refusalLine (opening header .refusal) 1))
-    go true e = feeding-on header [] lines (none-taken header (eqb-true (opening header .refusal) 0 e)) 2 refl
+        Outcome asked (header ∷ lines) (pick b (printedFeeding asked (stateFor header []) 2 lines) (refusalLine (opening header .refusal) 1))
+    go true e = feeding-on asked header [] lines (none-taken header (eqb-true (opening header .refusal) 0 e)) 2 refl
     go false e = not-opened header lines (opening header .refusal) (eqb-false (opening header .refusal) 0 e) refl (openings header)
 
 -- Lines that are all taken print what stands at their end.
@@ -162,13 +167,13 @@ none-refused header before line lines h k e =
     sym (ap (λ (x : History). linesTaken x) (fed-on (opened header) before (line ∷ lines))) ∙ k .taken in
     omega (arith, taken-few past lines, ap length same, ap length all, length-append before (line ∷ lines))
 
-all-fed : (header : List ℕ) (before lines : List (List ℕ)) (number : ℕ) → AllTaken header before → AllTaken header (before ++ lines) →
+all-fed : (asked : Bool) (header : List ℕ) (before lines : List (List ℕ)) (number : ℕ) → AllTaken header before → AllTaken header (before ++ lines) →
     number ≡ 2 + length before →
-    printedFeeding (stateFor header before) number lines ≡ printedAtEnd (stateFor header (before ++ lines)) (2 + length (before ++ lines))
+    printedFeeding asked (stateFor header before) number lines ≡ printedAtEnd asked (stateFor header (before ++ lines)) (2 + length (before ++ lines))
 unfolding printedFeeding
-all-fed header before [] number h k e = rw (append-nil before, e) refl
-all-fed header before (line ∷ lines) number h k e =
-    go (eqb (refusalOf (termsOf (opened header)) (record { kept = before }) line) 0) refl (all-fed header (before ++ (line ∷ [])) lines)
+all-fed asked header before [] number h k e = rw (append-nil before, e) refl
+all-fed asked header before (line ∷ lines) number h k e =
+    go (eqb (refusalOf (termsOf (opened header)) (record { kept = before }) line) 0) refl (all-fed asked header (before ++ (line ∷ [])) lines)
   where
     t : Terms
     t = termsOf (opened header)
@@ -178,9 +183,9 @@ all-fed header before (line ∷ lines) number h k e =
 
     go : (b : Bool) → eqb n 0 ≡ b →
         ((m : ℕ) → AllTaken header (before ++ (line ∷ [])) → AllTaken header ((before ++ (line ∷ [])) ++ lines) → m ≡ 2 + length (before ++ (line ∷ [])) →
-        printedFeeding (stateFor header (before ++ (line ∷ []))) m lines ≡ printedAtEnd (stateFor header ((before ++ (line ∷ [])) ++ lines))
+        printedFeeding asked (stateFor header (before ++ (line ∷ []))) m lines ≡ printedAtEnd asked (stateFor header ((before ++ (line ∷ [])) ++ lines))
         (2 + length ((before ++ (line ∷ [])) ++ lines))) →
-        printedFeeding (stateFor header before) number (line ∷ lines) ≡ printedAtEnd (stateFor header (before ++ (line ∷ lines)))
+        printedFeeding asked (stateFor header before) number (line ∷ lines) ≡ printedAtEnd asked (stateFor header (before ++ (line ∷ lines)))
         (2 + length (before ++ (line ∷ lines)))
     go true f ih =
         let z : refusalOf (termsOf (opened header)) (record { kept = before }) line ≡ 0 = eqb-true n 0 f in
@@ -188,27 +193,30 @@ all-fed header before (line ∷ lines) number h k e =
         let same : (before ++ (line ∷ [])) ++ lines ≡ before ++ (line ∷ lines) = append-assoc before (line ∷ []) lines in
         rw (fed-taken header before line z)
         (ih (number + 1) (taken-more header before line h z) (rw same k) (omega arith)
-        ∙ ap (λ (l : List (List ℕ)). printedAtEnd (stateFor header l) (2 + length l)) same)
+        ∙ ap (λ (l : List (List ℕ)). printedAtEnd asked (stateFor header l) (2 + length l)) same)
     go false f ih = absurd (none-refused header before line lines h k f)
 
 -- An input that gives a report prints it.
-reported : (header : List ℕ) (lines : List (List ℕ)) → Reports header lines → printedLines (header ∷ lines) ≡ reportFor (termsOf (opened header)) lines
+reported : (asked : Bool) (header : List ℕ) (lines : List (List ℕ)) → Reports header lines →
+    printedLines asked (header ∷ lines) ≡ withTable asked (reportFor (termsOf (opened header)) lines) (cellsFor (termsOf (opened header)) lines)
 unfolding printedLines
-reported header lines r =
+reported asked header lines r =
     let t : Terms = termsOf (opened header) in
     rw (eq-eqb (opening header .refusal) 0 (r .all .opens))
-    (ap (λ (s : State). printedFeeding s 2 lines) (opened-state header)
-    ∙ all-fed header [] lines 2 (none-taken header (r .all .opens)) (r .all) refl
-    ∙ end-is header lines (2 + length lines)
+    (ap (λ (s : State). printedFeeding asked s 2 lines) (opened-state header)
+    ∙ all-fed asked header [] lines 2 (none-taken header (r .all .opens)) (r .all) refl
+    ∙ end-is asked header lines (2 + length lines)
     ∙ rw (enough (t .header) (countsIn lines) .1 (r .loans, r .unscored)) refl)
 
-same-report : (t : Terms) {lines others : List (List ℕ)} → List·Permᴰ lines others → reportFor t lines ≡ reportFor t others
-same-report t {lines} {others} p = sym (report-is t lines) ∙ report-permuted t p ∙ report-is t others
+same-text : (asked : Bool) (t : Terms) {lines others : List (List ℕ)} → List·Permᴰ lines others →
+    withTable asked (reportFor t lines) (cellsFor t lines) ≡ withTable asked (reportFor t others) (cellsFor t others)
+same-text asked t {lines} {others} p =
+    ap₂ (withTable asked) (sym (report-is t lines) ∙ report-permuted t p ∙ report-is t others) (cells-permuted t p)
 
-alike : (header : List ℕ) (lines others : List (List ℕ)) (x y : List ℕ) → linesOf x ≡ header ∷ lines → linesOf y ≡ header ∷ others →
-    Reports header lines → Reports header others → List·Permᴰ lines others → printed x ≡ printed y
-alike header lines others x y e f r q p =
-    ap printedLines e ∙ reported header lines r ∙ same-report (termsOf (opened header)) p ∙ sym (reported header others q) ∙ sym (ap printedLines f)
+alike : (asked : Bool) (header : List ℕ) (lines others : List (List ℕ)) (x y : List ℕ) → linesOf x ≡ header ∷ lines → linesOf y ≡ header ∷ others →
+    Reports header lines → Reports header others → List·Permᴰ lines others → printed asked x ≡ printed asked y
+alike asked header lines others x y e f r q p =
+    ap (printedLines asked) e ∙ reported asked header lines r ∙ same-text asked (termsOf (opened header)) p ∙ sym (reported asked header others q) ∙ sym (ap (printedLines asked) f)
 
 -- document 01's worked input
 worked-reports : Reports workedHeader workedLines
@@ -223,10 +231,10 @@ worked-lines : linesOf workedInput ≡ workedHeader ∷ workedLines
 unfolding linesFrom lastOf
 worked-lines = refl
 
-worked : printed workedInput ≡ workedReport
+worked : printed false workedInput ≡ workedReport
 worked =
-    ap printedLines worked-lines ∙ reported workedHeader workedLines worked-reports
+    ap (printedLines false) worked-lines ∙ reported false workedHeader workedLines worked-reports
     ∙ ap (reportFor (termsOf (opened workedHeader))) (sym (twelve .taken12)) ∙ twelve .example12
 
 pub program : Program
-program = record { prints = λ input. outcome (linesOf input); alike = alike; stops = stops; worked = worked }
+program = record { prints = λ asked input. outcome asked (linesOf input); alike = alike; stops = stops; worked = worked }

@@ -2,6 +2,7 @@
 -- (contract of `finish`); proved in proofs/Program.antt.
 use Prim.Native.Nat.{ℕ, _+_, _≤_, _<_}
 use mathlib.Core.Path.{_≡_}
+use mathlib.Core.Bool.{Bool, false}
 use mathlib.Core.List.{List, [], _∷_, _++_, List·Permᴰ}
 use mathlib.Core.Logic.{_⊎_}
 use lib.ListN.{length}
@@ -13,7 +14,8 @@ use Rattle.book_model.specs.Demand2.{OpeningAnswer, FeedingAnswer}
 use Rattle.book_model.specs.Demand3.{reportFor, Measured}
 use Rattle.book_model.specs.Examples.{workedReport}
 use Rattle.book_model.specs.History.{opened, allFed, termsOf, linesTaken}
-use Rattle.driver.specs.Printed.{linesOf, printed}
+use Rattle.book_model.specs.LoanTable.{cellsFor, CellSums}
+use Rattle.driver.specs.Printed.{linesOf, withTable, printed}
 use Rattle.driver.specs.Reading.{Reading, fromStart, withBytes}
 
 -- The header line opens a book and all these lines after it are taken.
@@ -21,26 +23,28 @@ pub record AllTaken (header : List ℕ) (lines : List (List ℕ)) : Type 0 where
   pub opens : opening header .refusal ≡ 0
   pub taken : linesTaken (allFed (opened header) lines) ≡ lines
 
--- What is printed of lines, the first of them the header.
-pub data Outcome : (lines : List (List ℕ)) (out : List ℕ) → Type 0 where
+-- What is printed of lines, the first of them the header, where the table of cells is asked for or not.
+pub data Outcome (asked : Bool) : (lines : List (List ℕ)) (out : List ℕ) → Type 0 where
   -- Empty input prints (refused 2 1).
-  no-line : Outcome [] (refusalLine 2 1)
+  no-line : Outcome asked [] (refusalLine 2 1)
   -- The header line is refused with n: (refused n 1).
   not-opened : (header : List ℕ) (lines : List (List ℕ)) (n : ℕ) → (n ≡ 0 → ⊥) → opening header .refusal ≡ n →
-      OpeningAnswer header (opening header) → Outcome (header ∷ lines) (refusalLine n 1)
+      OpeningAnswer header (opening header) → Outcome asked (header ∷ lines) (refusalLine n 1)
   -- All lines before it are taken and this one is refused with n: (refused n L), L its number.
   not-taken : (header : List ℕ) (before : List (List ℕ)) (line : List ℕ) (others : List (List ℕ)) (n : ℕ) → (n ≡ 0 → ⊥) → AllTaken header before →
       FeedingAnswer (termsOf (opened header)) (record { kept = before }) line n →
-      Outcome (header ∷ (before ++ (line ∷ others))) (refusalLine n (2 + length before))
+      Outcome asked (header ∷ (before ++ (line ∷ others))) (refusalLine n (2 + length before))
   -- All lines are taken and too few of them are loans, or loans without a score: (refused 6 L), L the number after the last line.
   too-few : (header : List ℕ) (lines : List (List ℕ)) → AllTaken header lines →
       ((countsIn lines .loans < termsOf (opened header) .header .loans) ⊎ (countsIn lines .unscored < termsOf (opened header) .header .unscored)) →
-      Outcome (header ∷ lines) (refusalLine 6 (2 + length lines))
+      Outcome asked (header ∷ lines) (refusalLine 6 (2 + length lines))
   -- All lines are taken and there are as many loans as the header counts: the report of the lines, whose required amount is never below
-  -- the exact requirement and less than the allowance above it.
+  -- the exact requirement and less than the allowance above it; and after it, where that is asked for, the 60 lines of the table, whose
+  -- counts and charges sum to the report's loans and total.
   report : (header : List ℕ) (lines : List (List ℕ)) → AllTaken header lines →
       termsOf (opened header) .header .loans ≤ countsIn lines .loans → termsOf (opened header) .header .unscored ≤ countsIn lines .unscored →
-      Measured (termsOf (opened header)) lines → Outcome (header ∷ lines) (reportFor (termsOf (opened header)) lines)
+      Measured (termsOf (opened header)) lines → CellSums (termsOf (opened header)) lines →
+      Outcome asked (header ∷ lines) (withTable asked (reportFor (termsOf (opened header)) lines) (cellsFor (termsOf (opened header)) lines))
 
 -- An input that prints a report.
 pub record Reports (header : List ℕ) (lines : List (List ℕ)) : Type 0 where
@@ -58,11 +62,11 @@ workedInput =
     text "(book (loans 0) (unscored 0) (scores fresh) (held 0))\n(asset (amount 100000) (factor 25))\n(claims 1001)\n(equity 1000)\n(c 100)\n"
 
 pub record Program : Type 0 where
-  pub prints : (input : List ℕ) → Outcome (linesOf input) (printed input)
+  pub prints : (asked : Bool) (input : List ℕ) → Outcome asked (linesOf input) (printed asked input)
   -- Two inputs with the same header line and the same lines in whatever order that both print a report print the same bytes.
-  pub alike : (header : List ℕ) (lines others : List (List ℕ)) (x y : List ℕ) → linesOf x ≡ header ∷ lines → linesOf y ≡ header ∷ others →
-      Reports header lines → Reports header others → List·Permᴰ lines others → printed x ≡ printed y
+  pub alike : (asked : Bool) (header : List ℕ) (lines others : List (List ℕ)) (x y : List ℕ) → linesOf x ≡ header ∷ lines → linesOf y ≡ header ∷ others →
+      Reports header lines → Reports header others → List·Permᴰ lines others → printed asked x ≡ printed asked y
   -- The program may stop reading there.
-  pub stops : (input more : List ℕ) → Settled (withBytes fromStart input) → printed (input ++ more) ≡ printed input
-  -- Document 01's worked input prints its report.
-  pub worked : printed workedInput ≡ workedReport
+  pub stops : (asked : Bool) (input more : List ℕ) → Settled (withBytes fromStart input) → printed asked (input ++ more) ≡ printed asked input
+  -- Document 01's worked input prints its report, and nothing else where no table is asked for.
+  pub worked : printed false workedInput ≡ workedReport

@@ -68,18 +68,18 @@ withBytes s (byte ∷ bytes) = withBytes (withByte s byte) bytes
 
 -- The code's structs: what they stand for, with the tables lent beside them.
 
-abbrev pub stageAt : Progress → (rates : List ℕ) → Stage
-stageAt p rates = record { refusal = p .refusal; number = p .number; state = stateAt (p .book) rates }
+abbrev pub stageAt : Progress → (rates cells : List ℕ) → Stage
+stageAt p rates cells = record { refusal = p .refusal; number = p .number; state = stateAt (p .book) rates cells }
 
 abbrev pub progressAfter : (refusal number : ℕ) → Book → Progress
 progressAfter refusal number b = record { refusal = refusal; number = pick (eqb refusal 0) (number + 1) number; book = b }
 
-abbrev pub readingOf : Run → (rates : List ℕ) → Reading
-readingOf r rates = record { stage = stageAt (r .progress) rates; tail = take (r .held) (r .tail) }
+abbrev pub readingOf : Run → (rates cells : List ℕ) → Reading
+readingOf r rates cells = record { stage = stageAt (r .progress) rates cells; tail = take (r .held) (r .tail) }
 
 -- What every run assures: its book is sound, each line read had a byte that ended it, and no byte that is held ends a line.
-pub record Running (r : Run) (rates : List ℕ) : Type 0 where
-  pub sound : Sound (stateAt (r .progress .book) rates)
+pub record Running (r : Run) (rates cells : List ℕ) : Type 0 where
+  pub sound : Sound (stateAt (r .progress .book) rates cells)
   pub number : r .progress .number ≤ 1 + r .read
   pub held : r .held ≤ mostHeld
   pub room : length (r .tail) ≡ 242

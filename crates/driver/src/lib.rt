@@ -2,17 +2,18 @@
 mod newlines;
 
 ghost use mathlib.Core.Path.{_≡_};
-ghost use mathlib.Core.Bool.{true};
+ghost use mathlib.Core.Bool.{true, false};
 ghost use mathlib.Core.List.{[], _∷_};
 ghost use Prim.Native.Nat.{_+_, _^_, _≤_, _<_};
 ghost use lib.ListN.{length, take, drop};
 ghost use Rattle.loan_charge.specs.Tables.{exponentials};
 ghost use Rattle.loan_charge.specs.CreditFactor.{builtInRates};
 ghost use Rattle.report.specs.Line.{Written};
-ghost use Rattle.book_model.specs.Calls.{stateAt, reportSize, Sound};
+ghost use Rattle.book_model.specs.Calls.{stateAt, tooFew, reportSize, cellsSize, cellsTextOf, Sound};
 ghost use Rattle.driver.specs.Reading.{fromStart, withLine, unbroken, mostHeld, withTail, withBytes, progressAfter, stageAt, readingOf, Running};
-ghost use Rattle.driver.specs.Printed.{printedFor, ended, PrintsWhole};
+ghost use Rattle.driver.specs.Printed.{printedAtEnd, printedFor, ended, PrintsWhole};
 use book_model::Book;
+use cell_report::Cells;
 use line_forms::Header;
 use loan_charge::charge::Exponentials;
 use loan_charge::credit::Rates;
@@ -46,11 +47,12 @@ fn no_bytes() -> [u8; TAIL]
 }
 
 // Before any byte is read.
-pub fn start() -> Run
-    ensures equation { λ r. ⌜ readingOf r builtInRates ≡ fromStart ⌝ }
-    ensures running { λ r. ⌜ Running r builtInRates ⌝ }
+pub fn start(cells: &mut Cells) -> Run
+    ensures equation { λ r. ⌜ readingOf r builtInRates (now (cells .exit)) ≡ fromStart ⌝ }
+    ensures running { λ r. ⌜ Running r builtInRates (now (cells .exit)) ⌝ }
     ensures none { λ r. ⌜ r .read ≡ 0 ⌝ }
 {
+    cells::clear(cells);
     let header = Header {
         loans: 0,
         unscored: 0,
@@ -87,10 +89,18 @@ fn answered(refusal: u64, number: u64, book: Book) -> Progress
 }
 
 // A whole line is read.
-fn end_line(p: Progress, exps: &Exponentials, rates: &Rates, line: &[u8]) -> Progress
-    requires { ⌜ Sound (stateAt (p .book) (now rates)) × (p .number < 2 ^ 63) × (now exps ≡ exponentials) × (now rates ≡ builtInRates) ⌝ }
-    ensures equation { λ r. ⌜ stageAt r (now (rates .entry)) ≡ withLine (stageAt p (now (rates .entry))) (now (line .entry)) ⌝ }
-    ensures sound { λ r. ⌜ Sound (stateAt (r .book) (now (rates .entry))) ⌝ }
+fn end_line(
+    p: Progress,
+    exps: &Exponentials,
+    rates: &Rates,
+    cells: &mut Cells,
+    line: &[u8],
+) -> Progress
+    requires { ⌜ Sound (stateAt (p .book) (now rates) (now cells)) × (p .number < 2 ^ 63) × (now exps ≡ exponentials) × (now rates ≡ builtInRates) ⌝ }
+    ensures equation { λ r.
+        ⌜ stageAt r (now (rates .entry)) (now (cells .exit)) ≡
+        withLine (stageAt p (now (rates .entry)) (now (cells .entry))) (now (line .entry)) ⌝ }
+    ensures sound { λ r. ⌜ Sound (stateAt (r .book) (now (rates .entry)) (now (cells .exit))) ⌝ }
     ensures number { λ r. ⌜ r .number ≤ p .number + 1 ⌝ }
 {
     if p.refusal != 0 {
@@ -98,12 +108,12 @@ fn end_line(p: Progress, exps: &Exponentials, rates: &Rates, line: &[u8]) -> Pro
     }
     let number = p.number;
     if number == 1 {
-        let opened = book::open(line);
+        let opened = book::open(line, cells);
         let book = opened.book;
         return answered(opened.refusal, number, book);
     }
     let before = p.book;
-    let fed = book::feed_with(before, exps, rates, line);
+    let fed = book::feed_with(before, exps, rates, cells, line);
     let book = fed.book;
     answered(fed.refusal, number, book)
 }
@@ -115,14 +125,20 @@ struct LinesRead {
 }
 
 // Every line that ends in the bytes is read. Here alone a line is fed, so that the book is copied once and not at every call.
-fn lines(before: Progress, exps: &Exponentials, rates: &Rates, bytes: &[u8]) -> LinesRead
-    requires { ⌜ Sound (stateAt (before .book) (now rates)) × (before .number + length (now bytes) < 2 ^ 63) × (now exps ≡ exponentials)
+fn lines(
+    before: Progress,
+    exps: &Exponentials,
+    rates: &Rates,
+    cells: &mut Cells,
+    bytes: &[u8],
+) -> LinesRead
+    requires { ⌜ Sound (stateAt (before .book) (now rates) (now cells)) × (before .number + length (now bytes) < 2 ^ 63) × (now exps ≡ exponentials)
         × (now rates ≡ builtInRates) ⌝ }
     ensures equation { λ r.
-        ⌜ record { stage = stageAt (r .progress) (now (rates .entry)); tail = [] } ≡
-        withBytes (record { stage = stageAt before (now (rates .entry)); tail = [] }) (take (r .rest) (now (bytes .entry))) ⌝ }
+        ⌜ record { stage = stageAt (r .progress) (now (rates .entry)) (now (cells .exit)); tail = [] } ≡
+        withBytes (record { stage = stageAt before (now (rates .entry)) (now (cells .entry)); tail = [] }) (take (r .rest) (now (bytes .entry))) ⌝ }
     ensures rest { λ r. ⌜ (r .rest ≤ length (now (bytes .entry))) × (unbroken (drop (r .rest) (now (bytes .entry))) ≡ true) ⌝ }
-    ensures sound { λ r. ⌜ Sound (stateAt (r .progress .book) (now (rates .entry))) ⌝ }
+    ensures sound { λ r. ⌜ Sound (stateAt (r .progress .book) (now (rates .entry)) (now (cells .exit))) ⌝ }
     ensures number { λ r. ⌜ r .progress .number ≤ before .number + r .rest ⌝ }
 {
     let size = bytes.len();
@@ -136,7 +152,7 @@ fn lines(before: Progress, exps: &Exponentials, rates: &Rates, bytes: &[u8]) -> 
                 rest: i,
             };
         }
-        p = end_line(p, exps, rates, &bytes[i..end]);
+        p = end_line(p, exps, rates, cells, &bytes[i..end]);
         i = end + 1;
     }
     LinesRead {
@@ -180,16 +196,19 @@ fn end_held(
     held: usize,
     exps: &Exponentials,
     rates: &Rates,
+    cells: &mut Cells,
 ) -> Progress
-    requires { ⌜ Sound (stateAt (p .book) (now rates)) × (p .number + 242 < 2 ^ 63) × (now exps ≡ exponentials) × (now rates ≡ builtInRates) × (held ≤ mostHeld)
+    requires { ⌜ Sound (stateAt (p .book) (now rates) (now cells)) × (p .number + 242 < 2 ^ 63) × (now exps ≡ exponentials) × (now rates ≡ builtInRates) × (held ≤ mostHeld)
         × (length (now tail) ≡ 242) × (unbroken (take held (now tail)) ≡ true) ⌝ }
-    ensures equation { λ r. ⌜ stageAt r (now (rates .entry)) ≡ withLine (stageAt p (now (rates .entry))) (take held (now (tail .entry))) ⌝ }
-    ensures sound { λ r. ⌜ Sound (stateAt (r .book) (now (rates .entry))) ⌝ }
+    ensures equation { λ r.
+        ⌜ stageAt r (now (rates .entry)) (now (cells .exit)) ≡
+        withLine (stageAt p (now (rates .entry)) (now (cells .entry))) (take held (now (tail .entry))) ⌝ }
+    ensures sound { λ r. ⌜ Sound (stateAt (r .book) (now (rates .entry)) (now (cells .exit))) ⌝ }
     ensures number { λ r. ⌜ r .number ≤ p .number + 1 ⌝ }
 {
     tail[held] = b'\n';
     let end = held + 1;
-    let read = lines(p, exps, rates, &tail[0..end]);
+    let read = lines(p, exps, rates, cells, &tail[0..end]);
     read.progress
 }
 
@@ -199,19 +218,20 @@ fn read_lines(
     before: [u8; TAIL],
     exps: &Exponentials,
     rates: &Rates,
+    cells: &mut Cells,
     bytes: &[u8],
     read: usize,
 ) -> Run
-    requires { ⌜ Sound (stateAt (p .book) (now rates)) × (p .number + length (now bytes) ≤ 1 + read) × (read ≤ 2 ^ 62) × (now exps ≡ exponentials)
+    requires { ⌜ Sound (stateAt (p .book) (now rates) (now cells)) × (p .number + length (now bytes) ≤ 1 + read) × (read ≤ 2 ^ 62) × (now exps ≡ exponentials)
         × (now rates ≡ builtInRates) × (length before ≡ 242) ⌝ }
     ensures equation { λ r.
-        ⌜ readingOf r (now (rates .entry)) ≡
-        withBytes (record { stage = stageAt p (now (rates .entry)); tail = [] }) (now (bytes .entry)) ⌝ }
-    ensures running { λ r. ⌜ Running r (now (rates .entry)) ⌝ }
+        ⌜ readingOf r (now (rates .entry)) (now (cells .exit)) ≡
+        withBytes (record { stage = stageAt p (now (rates .entry)) (now (cells .entry)); tail = [] }) (now (bytes .entry)) ⌝ }
+    ensures running { λ r. ⌜ Running r (now (rates .entry)) (now (cells .exit)) ⌝ }
     ensures read { λ r. ⌜ r .read ≡ read ⌝ }
 {
     let size = bytes.len();
-    let all = lines(p, exps, rates, bytes);
+    let all = lines(p, exps, rates, cells, bytes);
     let rest = all.rest;
     let mut tail = before;
     let held = hold(&mut tail, 0, &bytes[rest..size]);
@@ -225,10 +245,12 @@ fn read_lines(
 }
 
 // A part of the input is read.
-pub fn step(run: Run, exps: &Exponentials, rates: &Rates, chunk: &[u8]) -> Run
-    requires { ⌜ Running run (now rates) × (run .read + length (now chunk) ≤ 2 ^ 62) × (now exps ≡ exponentials) × (now rates ≡ builtInRates) ⌝ }
-    ensures equation { λ r. ⌜ readingOf r (now (rates .entry)) ≡ withBytes (readingOf run (now (rates .entry))) (now (chunk .entry)) ⌝ }
-    ensures running { λ r. ⌜ Running r (now (rates .entry)) ⌝ }
+pub fn step(run: Run, exps: &Exponentials, rates: &Rates, cells: &mut Cells, chunk: &[u8]) -> Run
+    requires { ⌜ Running run (now rates) (now cells) × (run .read + length (now chunk) ≤ 2 ^ 62) × (now exps ≡ exponentials) × (now rates ≡ builtInRates) ⌝ }
+    ensures equation { λ r.
+        ⌜ readingOf r (now (rates .entry)) (now (cells .exit)) ≡
+        withBytes (readingOf run (now (rates .entry)) (now (cells .entry))) (now (chunk .entry)) ⌝ }
+    ensures running { λ r. ⌜ Running r (now (rates .entry)) (now (cells .exit)) ⌝ }
     ensures read { λ r. ⌜ r .read ≡ run .read + length (now (chunk .entry)) ⌝ }
 {
     let size = chunk.len();
@@ -237,7 +259,7 @@ pub fn step(run: Run, exps: &Exponentials, rates: &Rates, chunk: &[u8]) -> Run
     let held = run.held;
     let mut tail = run.tail;
     if held == 0 {
-        return read_lines(p, tail, exps, rates, chunk, read);
+        return read_lines(p, tail, exps, rates, cells, chunk, read);
     }
     let end = newlines::line_end(chunk, 0);
     let n = hold(&mut tail, held, &chunk[0..end]);
@@ -249,15 +271,40 @@ pub fn step(run: Run, exps: &Exponentials, rates: &Rates, chunk: &[u8]) -> Run
             read,
         };
     }
-    let next = end_held(p, &mut tail, n, exps, rates);
+    let next = end_held(p, &mut tail, n, exps, rates, cells);
     let from = end + 1;
-    read_lines(next, tail, exps, rates, &chunk[from..size], read)
+    read_lines(next, tail, exps, rates, cells, &chunk[from..size], read)
+}
+
+// Writes the table of cells.
+fn put_table(b: Book, cells: &Cells, out: &mut [u8]) -> usize
+    requires { ⌜ (tooFew (b .header) (b .sums .counts) ≡ false) × (cellsSize ≤ length (now out)) ⌝ }
+    ensures { λ r. ⌜ Written (now (out .entry)) (cellsTextOf (now (cells .entry))) r (now (out .exit)) ⌝ }
+{
+    let closed = book::close_cells(b, cells, out);
+    closed.length
+}
+
+// Closes a book, of which the line after the last would have this number: writes its report, and the table of cells where it is asked for.
+fn put_closing(b: Book, number: u64, cells: &Cells, asked: bool, out: &mut [u8]) -> usize
+    requires { ⌜ Sound (stateAt b builtInRates (now cells)) × (reportSize + cellsSize ≤ length (now out)) ⌝ }
+    ensures { λ r. ⌜ Written (now (out .entry)) (printedAtEnd asked (stateAt b builtInRates (now (cells .entry))) number) r (now (out .exit)) ⌝ }
+{
+    let closed = book::close(b, out);
+    if closed.refusal != 0 {
+        return report::put_refusal(out, 6, number);
+    }
+    let at = closed.length;
+    if asked {
+        return at + put_table(b, cells, &mut out[at..]);
+    }
+    at
 }
 
 // Writes what is printed where the lines end.
-fn put_answer(p: Progress, out: &mut [u8]) -> usize
-    requires { ⌜ Sound (stateAt (p .book) builtInRates) × (reportSize ≤ length (now out)) ⌝ }
-    ensures { λ r. ⌜ Written (now (out .entry)) (printedFor (stageAt p builtInRates)) r (now (out .exit)) ⌝ }
+fn put_answer(p: Progress, cells: &Cells, asked: bool, out: &mut [u8]) -> usize
+    requires { ⌜ Sound (stateAt (p .book) builtInRates (now cells)) × (reportSize + cellsSize ≤ length (now out)) ⌝ }
+    ensures { λ r. ⌜ Written (now (out .entry)) (printedFor asked (stageAt p builtInRates (now (cells .entry)))) r (now (out .exit)) ⌝ }
 {
     let refusal = p.refusal;
     let number = p.number;
@@ -268,25 +315,30 @@ fn put_answer(p: Progress, out: &mut [u8]) -> usize
         return report::put_refusal(out, 2, 1);
     }
     let book = p.book;
-    let closed = book::close(book, out);
-    if closed.refusal != 0 {
-        return report::put_refusal(out, 6, number);
-    }
-    closed.length
+    put_closing(book, number, cells, asked, out)
 }
 
-// The end of the input: what is to be printed is written to the lent buffer.
-pub fn finish(run: Run, exps: &Exponentials, rates: &Rates, out: &mut [u8]) -> usize
-    requires { ⌜ Running run (now rates) × (run .read ≤ 2 ^ 62) × (now exps ≡ exponentials) × (now rates ≡ builtInRates) × (reportSize ≤ length (now out)) ⌝ }
-    ensures equation { λ r. ⌜ Written (now (out .entry)) (printedFor (ended (readingOf run (now (rates .entry))))) r (now (out .exit)) ⌝ }
-    ensures whole { λ r. ⌜ PrintsWhole (readingOf run (now (rates .entry))) (now (out .entry)) r (now (out .exit)) ⌝ }
+// The end of the input: what is to be printed is written to the lent buffer, with the table of cells where it is asked for.
+pub fn finish(
+    run: Run,
+    exps: &Exponentials,
+    rates: &Rates,
+    cells: &mut Cells,
+    asked: bool,
+    out: &mut [u8],
+) -> usize
+    requires { ⌜ Running run (now rates) (now cells) × (run .read ≤ 2 ^ 62) × (now exps ≡ exponentials) × (now rates ≡ builtInRates)
+        × (reportSize + cellsSize ≤ length (now out)) ⌝ }
+    ensures equation { λ r.
+        ⌜ Written (now (out .entry)) (printedFor asked (ended (readingOf run (now (rates .entry)) (now (cells .entry))))) r (now (out .exit)) ⌝ }
+    ensures whole { λ r. ⌜ PrintsWhole asked (readingOf run (now (rates .entry)) (now (cells .entry))) (now (out .entry)) r (now (out .exit)) ⌝ }
 {
     let p = run.progress;
     let unended = run.held;
     if unended == 0 {
-        return put_answer(p, out);
+        return put_answer(p, cells, asked, out);
     }
     let mut tail = run.tail;
-    let last = end_held(p, &mut tail, unended, exps, rates);
-    put_answer(last, out)
+    let last = end_held(p, &mut tail, unended, exps, rates, cells);
+    put_answer(last, cells, asked, out)
 }

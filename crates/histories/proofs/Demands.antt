@@ -1,53 +1,64 @@
--- Demands 1 to 3 of the calls, from the theorems about the definitions that their contracts cite. Assumes nothing.
+-- Demands 1 to 3 of the calls, and request L1, from the theorems about the definitions that their contracts cite. Assumes nothing.
 use mathlib.Core.Path.{_≡_, refl, sym, _∙_, ap, ap₂, subst}
 use mathlib.Core.List.{List}
 use Prim.Native.Nat.{ℕ}
-use lib.ListN.{length}
+use lib.ListN.{length, take}
 use Rattle.loan_charge.specs.CreditFactor.{builtInRates}
 use Rattle.line_forms.specs.declared.HeaderLine.{HeaderLine}
 use Rattle.line_forms.specs.declared.HeaderLine.the-variants.{Header as HeaderRead, Refusal as HeaderRefusal}
 use Rattle.line_forms.specs.Readings.{headerOf}
+use Rattle.report.specs.Line.{onto}
 use Rattle.book_model.specs.declared.Book.{Book}
 use Rattle.book_model.specs.declared.Closed.{Closed}
 use Rattle.book_model.specs.declared.Fed.{Fed}
-use Rattle.book_model.specs.declared.Opened.{Opened}
-use Rattle.book_model.specs.Calls.{State, Answer, stateAt, openedOf, fedOf, openingFor, opening, feedingLine, feeding, closing, closed, Sound}
-use Rattle.book_model.specs.Demand3.{Closes, SameReports}
+use Rattle.book_model.specs.Accepted.{Accepted}
+use Rattle.book_model.specs.Calls.{State, Answer, stateAt, openedOf, fedOf, openingFor, opening, feedingLine, feeding, closing, closed, closingCells, Sound}
+use Rattle.book_model.specs.Calls.{reportSize, cellsSize, closedCells}
+use Rattle.book_model.specs.Demand3.{Writes, Closes, SameTexts, SameReports}
 use Rattle.book_model.specs.History.{History, termsOf, acceptedOf, linesTaken}
+use Rattle.book_model.specs.LoanTable.{WritesCells, SameTables}
 use Rattle.book_model.specs.Terms.{Terms}
 use Rattle.book_model.proofs.Demand1.{demand1}
 use Rattle.book_model.proofs.Demand2.{openings, feeding-answer, closing-answer}
 use Rattle.book_model.proofs.Demand3.{opened-is, fed-is, terms-in-range, closes-of, measured-of, same-reports}
+use Rattle.book_model.proofs.LoanTable.{cell-is, cell-sums, cells-written, same-tables}
 use Rattle.book_model.proofs.Steps.{stateOf}
-use Rattle.histories.specs.Demands.{CallsDemand1, CallsDemand2, CallsDemand3}
-use Rattle.histories.specs.Given.{OpenCall, FeedingCall, by-feed, by-feed-with, CloseCall, Given, by-opening, by-feeding}
+use Rattle.histories.specs.Demands.{CallsDemand1, CallsDemand2, CallsDemand3, CallsLoanTable}
+use Rattle.histories.specs.Given.{OpenCall, FeedingCall, by-feed, by-feed-with, CloseCall, CellsCall, Given, by-opening, by-feeding}
 
 -- What each call gave, by its contract
 
-opened-by : {line : List ℕ} {r : Opened} → OpenCall line r → r ≡ openedOf (opening line)
-opened-by c = c .learnt .0 ∙ ap (λ (x : List ℕ). openedOf (opening x)) (c .lent)
-
--- a state just opened is under the regulator's table
-under-built-in : (l : HeaderLine) → openingFor l .state ≡ stateAt (openingFor l .state .book) builtInRates
+-- an opened state is under the regulator's table
+under-built-in : (l : HeaderLine) → openingFor l .state ≡ stateAt (openingFor l .state .book) builtInRates (openingFor l .state .cells)
 unfolding openingFor
 under-built-in (HeaderRead h) = refl
 under-built-in (HeaderRefusal n) = refl
 
--- the answer with the table
-opening-answer : {line : List ℕ} {r : Opened} → OpenCall line r → record { refusal = r .refusal; state = stateAt (r .book) builtInRates } ≡ opening line
-opening-answer {line} {r} c = λ i. record {
-  refusal = opened-by c i .refusal;
-  state = (ap (λ (o : Opened). stateAt (o .book) builtInRates) (opened-by c) ∙ sym (under-built-in (headerOf line))) i;
-}
+opened-by : {line : List ℕ} {a : Answer} → OpenCall line a → a ≡ opening line
+opened-by {line} {a} c =
+    let o : c .result ≡ openedOf (opening line) = c .learnt .0 ∙ ap (λ (x : List ℕ). openedOf (opening x)) (c .lent) in
+    let t = c .learnt .1 .0 ∙ ap (λ (x : List ℕ). opening x .state .cells) (c .lent) in
+    sym (c .gave)
+    ∙ (λ i. record { refusal = o i .refusal; state = stateAt (o i .book) builtInRates (t i) })
+    ∙ (λ i. record { refusal = opening line .refusal; state = sym (under-built-in (headerOf line)) i })
 
-fed-by : {s : State} {line : List ℕ} {r : Fed} → FeedingCall s line r → r ≡ fedOf (feeding s line)
-fed-by (by-feed c) = c .learnt .0 ∙ ap₂ (λ (x : State) (l : List ℕ). fedOf (feeding x l)) (c .handed) (c .lent)
-fed-by (by-feed-with c) = c .learnt .0 ∙ ap₂ (λ (x : State) (l : List ℕ). fedOf (feeding x l)) (c .handed) (c .lent)
-
--- feeding leaves the tables
-fed-state : (s : State) (line : List ℕ) → feeding s line .state ≡ stateAt (feeding s line .state .book) (s .rates)
+-- feeding leaves the rates
+fed-state : (s : State) (line : List ℕ) → feeding s line .state ≡ stateAt (feeding s line .state .book) (s .rates) (feeding s line .state .cells)
 unfolding feedingLine
 fed-state s line = refl
+
+-- from the two parts that a contract tells
+fed-parts : (s : State) (line : List ℕ) {r : Fed} {cells : List ℕ} → r ≡ fedOf (feeding s line) → cells ≡ feeding s line .state .cells →
+    record { refusal = r .refusal; state = stateAt (r .book) (s .rates) cells } ≡ feeding s line
+fed-parts s line e f =
+    (λ i. record { refusal = e i .refusal; state = stateAt (e i .book) (s .rates) (f i) })
+    ∙ (λ i. record { refusal = feeding s line .refusal; state = sym (fed-state s line) i })
+
+fed-by : {s : State} {line : List ℕ} {a : Answer} → FeedingCall s line a → a ≡ feeding s line
+fed-by (by-feed c) =
+    sym (c .gave) ∙ fed-parts _ _ (c .learnt .0) (c .learnt .1 .0) ∙ ap₂ feeding (c .handed) (c .lent)
+fed-by (by-feed-with c) =
+    sym (c .gave) ∙ fed-parts _ _ (c .learnt .0) (c .learnt .1 .0) ∙ ap₂ feeding (c .handed) (c .lent)
 
 closed-by : {b : Book} {buffer after : List ℕ} {r : Closed} → CloseCall b buffer r after → (r ≡ closing b (length buffer)) × (after ≡ closed b buffer)
 closed-by c = (
@@ -55,62 +66,103 @@ closed-by c = (
   sym (c .left) ∙ c .learnt .1 ∙ ap₂ (λ (x : Book) (l : List ℕ). closed x l) (c .handed) (c .lent),
 )
 
+cells-by : {b : Book} {cells buffer after : List ℕ} {r : Closed} → CellsCall b cells buffer r after → (r ≡ closingCells b cells (length buffer))
+    × (after ≡ closedCells b cells buffer)
+cells-by c = (
+  c .learnt .0 ∙ (λ i. closingCells (c .handed i) (c .table i) (length (c .lent i))),
+  sym (c .left) ∙ c .learnt .1 ∙ (λ i. closedCells (c .handed i) (c .table i) (c .lent i)),
+)
+
 -- The state that the calls gave is that of the lines taken.
 pub given : {h : History} {s : State} → Given h s → s ≡ stateOf (termsOf h) (acceptedOf h)
-given (by-opening line r c e) = ap (λ (a : Answer). a .state) (opening-answer c) ∙ opened-is line
-given (by-feeding {h} {s} g line r c) =
-    ap (λ (f : Fed). stateAt (f .book) (s .rates)) (fed-by c) ∙ sym (fed-state s line) ∙ ap (λ (x : State). feeding x line .state) (given g) ∙ fed-is h line
+given (by-opening line a c e) = ap (λ (x : Answer). x .state) (opened-by c) ∙ opened-is line
+given (by-feeding {h} {s} g line a c) =
+    ap (λ (x : Answer). x .state) (fed-by c) ∙ ap (λ (x : State). feeding x line .state) (given g) ∙ fed-is h line
 
 closes : {h : History} {s : State} → Given h s → Closes (termsOf h) (acceptedOf h) s
 closes {h} g = rw (given g) (closes-of (termsOf h) (acceptedOf h))
 
+closes-cells : {h : History} {s : State} → Given h s → WritesCells (termsOf h) (acceptedOf h) s
+closes-cells {h} g = rw (given g) (cells-written (termsOf h) (acceptedOf h))
+
 sound : {h : History} {s : State} → Given h s → Sound s
-sound (by-opening line r c e) = subst (λ (a : Answer). Sound (a .state)) (sym (opening-answer c)) (demand1 .opening-sound line)
-sound (by-feeding {h} {s} g line r c) =
-    subst (λ (x : State). Sound x) (sym (ap (λ (f : Fed). stateAt (f .book) (s .rates)) (fed-by c) ∙ sym (fed-state s line)))
-    (demand1 .feeding-sound s line (sound g))
+sound (by-opening line a c e) = subst (λ (x : Answer). Sound (x .state)) (sym (opened-by c)) (demand1 .opening-sound line)
+sound (by-feeding {h} {s} g line a c) = subst (λ (x : Answer). Sound (x .state)) (sym (fed-by c)) (demand1 .feeding-sound s line (sound g))
 
 pub calls-demand1 : CallsDemand1
 calls-demand1 = record {
-  opening-numbers = λ {line} {r} c. rw (opened-by c) (demand1 .opening-numbers line);
-  feeding-numbers = λ {s} {line} {r} c. rw (fed-by c) (demand1 .feeding-numbers s line);
+  opening-numbers = λ {line} {a} c. rw (opened-by c) (demand1 .opening-numbers line);
+  feeding-numbers = λ {s} {line} {a} c. rw (fed-by c) (demand1 .feeding-numbers s line);
   closing-numbers = λ {b} {buffer} {after} {r} c. rw (closed-by c .0) (demand1 .closing-numbers b (length buffer));
-  refused-opening = λ {line} {r} c n.
-      ap (λ (o : Opened). o .book) (opened-by c)
-      ∙ ap (λ (s : State). s .book) (demand1 .refused-opening line (λ z. n (ap (λ (o : Opened). o .refusal) (opened-by c) ∙ z)));
-  refused-feeding = λ {s} {line} {r} c n.
-      ap (λ (f : Fed). f .book) (fed-by c)
-      ∙ ap (λ (x : State). x .book) (demand1 .refused-feeding s line (λ z. n (ap (λ (f : Fed). f .refusal) (fed-by c) ∙ z)));
+  cells-numbers = λ {b} {cells} {buffer} {after} {r} c. rw (cells-by c .0) (demand1 .cells-numbers b cells (length buffer));
+  refused-opening = λ {line} {a} c n.
+      ap (λ (x : Answer). x .state) (opened-by c) ∙ demand1 .refused-opening line (λ z. n (ap (λ (x : Answer). x .refusal) (opened-by c) ∙ z));
+  refused-feeding = λ {s} {line} {a} c n.
+      ap (λ (x : Answer). x .state) (fed-by c) ∙ demand1 .refused-feeding s line (λ z. n (ap (λ (x : Answer). x .refusal) (fed-by c) ∙ z));
   refused-closing = λ {b} {buffer} {after} {r} c n.
       closed-by c .1 ∙ demand1 .refused-closing b buffer (λ z. n (ap (λ (x : Closed). x .refusal) (closed-by c .0) ∙ z));
+  refused-cells = λ {b} {cells} {buffer} {after} {r} c n.
+      cells-by c .1 ∙ demand1 .refused-cells b cells buffer (λ z. n (ap (λ (x : Closed). x .refusal) (cells-by c .0) ∙ z));
   sound = sound;
 }
 
--- the number that a call of feeding gave, and of closing
-fed-number : {h : History} {s : State} → Given h s → {line : List ℕ} {r : Fed} → FeedingCall s line r → r .refusal ≡ feeding s line .refusal
-fed-number g c = ap (λ (f : Fed). f .refusal) (fed-by c)
+-- the number that a call gave
+fed-number : {s : State} {line : List ℕ} {a : Answer} → FeedingCall s line a → a .refusal ≡ feeding s line .refusal
+fed-number c = ap (λ (x : Answer). x .refusal) (fed-by c)
 
 closed-number : {b : Book} {buffer after : List ℕ} {r : Closed} → CloseCall b buffer r after → r .refusal ≡ closing b (length buffer) .refusal
 closed-number c = ap (λ (x : Closed). x .refusal) (closed-by c .0)
 
+cells-number : {b : Book} {cells buffer after : List ℕ} {r : Closed} → CellsCall b cells buffer r after →
+    r .refusal ≡ closingCells b cells (length buffer) .refusal
+cells-number c = ap (λ (x : Closed). x .refusal) (cells-by c .0)
+
 pub calls-demand2 : CallsDemand2
 calls-demand2 = record {
-  openings = λ {line} {r} c. rw (opening-answer c) (openings line);
-  feedings = λ {h} {s} g {line} {r} c. rw (fed-number g c ∙ closes g .answers line) (feeding-answer (termsOf h) (acceptedOf h) line);
+  openings = λ {line} {a} c. rw (opened-by c) (openings line);
+  feedings = λ {h} {s} g {line} {a} c. rw (fed-number c ∙ closes g .answers line) (feeding-answer (termsOf h) (acceptedOf h) line);
   closings = λ {h} {s} g {buffer} {after} {r} c. rw (closed-number c
-      ∙ closes g .refusal (length buffer)) (closing-answer (termsOf h) (acceptedOf h) (length buffer));
+      ∙ closes g .report .refusal (length buffer)) (closing-answer reportSize (termsOf h) (acceptedOf h) (length buffer));
+  cells-closings = λ {h} {s} g {buffer} {after} {r} c. rw (cells-number c
+      ∙ closes-cells g .refusal (length buffer)) (closing-answer cellsSize (termsOf h) (acceptedOf h) (length buffer));
 }
+
+-- What a closing by a call wrote: r and `after` are its answer and the buffer as it left it.
+written-by : {least : ℕ} {t : Terms} {a : Accepted} {text : List ℕ} {answer : ℕ → Closed} {left : List ℕ → List ℕ} → Writes least t a text answer left →
+    {buffer after : List ℕ} {r : Closed} → (r ≡ answer (length buffer)) × (after ≡ left buffer) → r .refusal ≡ 0 →
+    (after ≡ onto buffer text) × (r .length ≡ length text)
+written-by w {buffer} (e, f) z =
+    let n = sym (ap (λ (x : Closed). x .refusal) e) ∙ z in
+    (f ∙ w .written buffer n, ap (λ (x : Closed). x .length) e ∙ w .told (length buffer) n)
+
+-- and that two of them wrote the same
+same-by : (answer other : ℕ → Closed) (left left-other : List ℕ → List ℕ) → SameTexts answer left other left-other →
+    (x y : List ℕ) {after-x after-y : List ℕ} {r q : Closed} → (r ≡ answer (length x)) × (after-x ≡ left x) → (q ≡ other (length y)) × (after-y ≡ left-other y) →
+    r .refusal ≡ 0 → q .refusal ≡ 0 → (r .length ≡ q .length) × (take (r .length) after-x ≡ take (q .length) after-y)
+same-by answer other left left-other t x y (e, f) (g, h) z w =
+    rw (e, g, f, h) (t x y (sym (ap (λ (c : Closed). c .refusal) e) ∙ z) (sym (ap (λ (c : Closed). c .refusal) g) ∙ w))
+
+-- two states under equal terms
+same-terms : (h : History) {k : History} {u : State} → Given k u → termsOf h ≡ termsOf k → u ≡ stateOf (termsOf h) (acceptedOf k)
+same-terms h {k} f e = given f ∙ ap (λ (t : Terms). stateOf t (acceptedOf k)) (sym e)
 
 pub calls-demand3 : CallsDemand3
 calls-demand3 = record {
-  takes = λ {h} {s} g {line} {r} c. rw (fed-number g c) (closes g .taken line);
-  writes = λ {h} {s} g {buffer} {after} {r} c e.
-      let z = sym (closed-number c) ∙ e in
-      (closed-by c .1 ∙ closes g .report buffer z, ap (λ (x : Closed). x .length) (closed-by c .0) ∙ closes g .told (length buffer) z);
+  takes = λ {h} {s} g {line} {a} c. rw (fed-number c) (closes g .taken line);
+  writes = λ {h} {s} g {buffer} {after} {r} c e. written-by (closes g .report) (closed-by c) e;
   measured = λ {h} {s} g. measured-of (termsOf h) (terms-in-range h) (linesTaken h);
   alike = λ {h} {k} {s} {u} g f e p {x} {y} {after-x} {after-y} {r} {q} c d z w.
-      let same : u ≡ stateOf (termsOf h) (acceptedOf k) = given f ∙ ap (λ (t : Terms). stateOf t (acceptedOf k)) (sym e) in
-      let t : SameReports (s .book) (u .book) = rw (given g, same) (same-reports (termsOf h) p) in
-      rw (closed-by c .0, closed-by d .0, closed-by c .1, closed-by d .1)
-      (t x y (sym (closed-number c) ∙ z) (sym (closed-number d) ∙ w));
+      let t : SameReports (s .book) (u .book) = rw (given g, same-terms h f e) (same-reports (termsOf h) p) in
+      same-by (closing (s .book)) (closing (u .book)) (closed (s .book)) (closed (u .book)) t x y (closed-by c) (closed-by d) z w;
+}
+
+pub calls-loan-table : CallsLoanTable
+calls-loan-table = record {
+  cells = λ {h} {s} g. rw (given g) (cell-is (termsOf h) (linesTaken h));
+  sums = λ {h} {s} g. cell-sums (termsOf h) (linesTaken h);
+  writes = λ {h} {s} g {buffer} {after} {r} c e. written-by (closes-cells g) (cells-by c) e;
+  alike = λ {h} {k} {s} {u} g f e p {x} {y} {after-x} {after-y} {r} {q} c d z w.
+      let t : SameTables s u = rw (given g, same-terms h f e) (same-tables (termsOf h) p) in
+      same-by (closingCells (s .book) (s .cells)) (closingCells (u .book) (u .cells)) (closedCells (s .book) (s .cells)) (closedCells (u .book) (u .cells)) t
+      x y (cells-by c) (cells-by d) z w;
 }

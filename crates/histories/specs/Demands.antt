@@ -1,49 +1,53 @@
--- Demands 1 to 3 of the calls `open`, `feed`, `feed_with` and `close` themselves. Proved in proofs/Demands.antt.
+-- Demands 1 to 3 of the calls `open`, `feed`, `feed_with`, `close` and `close_cells` themselves, and request L1. Proved in proofs/Demands.antt.
 use mathlib.Core.Path.{_≡_}
 use mathlib.Core.List.{List, [], _∷_, _++_, List·Memᴰ, List·Permᴰ}
 use mathlib.Core.Logic.{_↔_}
-use Prim.Native.Nat.{ℕ}
+use Prim.Native.Nat.{ℕ, _≤_}
 use lib.ListN.{length, take}
-use Rattle.loan_charge.specs.CreditFactor.{builtInRates}
 use Rattle.report.specs.Line.{onto}
+use Rattle.cell_report.specs.CellReport.{cellAt}
 use Rattle.book_model.specs.declared.Book.{Book}
 use Rattle.book_model.specs.declared.Closed.{Closed}
-use Rattle.book_model.specs.declared.Fed.{Fed}
-use Rattle.book_model.specs.declared.Opened.{Opened}
 use Rattle.book_model.specs.Accepted.{accept}
-use Rattle.book_model.specs.Calls.{State, stateAt, Sound}
+use Rattle.book_model.specs.Calls.{State, Answer, Sound}
 use Rattle.book_model.specs.Demand1.{refusedState}
 use Rattle.book_model.specs.Demand2.{OpeningAnswer, FeedingAnswer, ClosingAnswer}
 use Rattle.book_model.specs.Demand3.{reportFor, Measured}
 use Rattle.book_model.specs.History.{History, termsOf, acceptedOf, linesTaken}
-use Rattle.histories.specs.Given.{OpenCall, FeedingCall, CloseCall, Given}
+use Rattle.book_model.specs.LoanTable.{cellFor, cellsFor, CellSums}
+use Rattle.histories.specs.Given.{OpenCall, FeedingCall, CloseCall, CellsCall, Given}
 
 -- Demand 1. That every call comes to an end is part of what it means that it is proved.
 pub record CallsDemand1 : Type 0 where
   -- The answer is 0, or the number of a refusal that document 01 names for the call.
-  pub opening-numbers : {line : List ℕ} {r : Opened} → OpenCall line r → List·Memᴰ (r .refusal) (0 ∷ 1 ∷ 2 ∷ 7 ∷ 3 ∷ 4 ∷ [])
-  pub feeding-numbers : {s : State} {line : List ℕ} {r : Fed} → FeedingCall s line r → List·Memᴰ (r .refusal) (0 ∷ 1 ∷ 2 ∷ 7 ∷ 3 ∷ 5 ∷ 8 ∷ [])
+  pub opening-numbers : {line : List ℕ} {a : Answer} → OpenCall line a → List·Memᴰ (a .refusal) (0 ∷ 1 ∷ 2 ∷ 7 ∷ 3 ∷ 4 ∷ [])
+  pub feeding-numbers : {s : State} {line : List ℕ} {a : Answer} → FeedingCall s line a → List·Memᴰ (a .refusal) (0 ∷ 1 ∷ 2 ∷ 7 ∷ 3 ∷ 5 ∷ 8 ∷ [])
   pub closing-numbers : {b : Book} {buffer after : List ℕ} {r : Closed} → CloseCall b buffer r after → List·Memᴰ (r .refusal) (0 ∷ 6 ∷ 9 ∷ [])
-  -- Refused, an opening gives the value of an all-zero header, a feeding the same book, and a closing leaves every byte.
-  pub refused-opening : {line : List ℕ} {r : Opened} → OpenCall line r → (r .refusal ≡ 0 → ⊥) → r .book ≡ refusedState .book
-  pub refused-feeding : {s : State} {line : List ℕ} {r : Fed} → FeedingCall s line r → (r .refusal ≡ 0 → ⊥) → r .book ≡ s .book
+  pub cells-numbers : {b : Book} {cells buffer after : List ℕ} {r : Closed} → CellsCall b cells buffer r after → List·Memᴰ (r .refusal) (0 ∷ 6 ∷ 9 ∷ [])
+  -- Refused, an opening gives the value of an all-zero header, a feeding the same state, every place of its tables included, and a closing
+  -- leaves every byte.
+  pub refused-opening : {line : List ℕ} {a : Answer} → OpenCall line a → (a .refusal ≡ 0 → ⊥) → a .state ≡ refusedState
+  pub refused-feeding : {s : State} {line : List ℕ} {a : Answer} → FeedingCall s line a → (a .refusal ≡ 0 → ⊥) → a .state ≡ s
   pub refused-closing : {b : Book} {buffer after : List ℕ} {r : Closed} → CloseCall b buffer r after → (r .refusal ≡ 0 → ⊥) → after ≡ buffer
+  pub refused-cells : {b : Book} {cells buffer after : List ℕ} {r : Closed} → CellsCall b cells buffer r after → (r .refusal ≡ 0 → ⊥) → after ≡ buffer
   -- Every state that the calls gave may be handed to the next call.
   pub sound : {h : History} {s : State} → Given h s → Sound s
 
 -- Demand 2: each number when and only when its condition holds, by the lines taken.
 pub record CallsDemand2 : Type 0 where
-  pub openings : {line : List ℕ} {r : Opened} → OpenCall line r → OpeningAnswer line (record { refusal = r .refusal; state = stateAt (r .book) builtInRates })
-  pub feedings : {h : History} {s : State} → Given h s → {line : List ℕ} {r : Fed} → FeedingCall s line r →
-      FeedingAnswer (termsOf h) (acceptedOf h) line (r .refusal)
+  pub openings : {line : List ℕ} {a : Answer} → OpenCall line a → OpeningAnswer line a
+  pub feedings : {h : History} {s : State} → Given h s → {line : List ℕ} {a : Answer} → FeedingCall s line a →
+      FeedingAnswer (termsOf h) (acceptedOf h) line (a .refusal)
   pub closings : {h : History} {s : State} → Given h s → {buffer after : List ℕ} {r : Closed} → CloseCall (s .book) buffer r after →
       ClosingAnswer 512 (termsOf h) (acceptedOf h) (length buffer) (r .refusal)
+  pub cells-closings : {h : History} {s : State} → Given h s → {buffer after : List ℕ} {r : Closed} →
+      CellsCall (s .book) (s .cells) buffer r after → ClosingAnswer 8192 (termsOf h) (acceptedOf h) (length buffer) (r .refusal)
 
 -- Demand 3, of every state that the calls gave.
 pub record CallsDemand3 : Type 0 where
   -- Feeding takes a line exactly when the ledger adds it.
-  pub takes : {h : History} {s : State} → Given h s → {line : List ℕ} {r : Fed} → FeedingCall s line r →
-      (r .refusal ≡ 0) ↔ (accept (termsOf h) (acceptedOf h) line .kept ≡ linesTaken h ++ (line ∷ []))
+  pub takes : {h : History} {s : State} → Given h s → {line : List ℕ} {a : Answer} → FeedingCall s line a →
+      (a .refusal ≡ 0) ↔ (accept (termsOf h) (acceptedOf h) line .kept ≡ linesTaken h ++ (line ∷ []))
   -- A closing that is not refused writes the report of the lines taken from the buffer's start, and tells its length.
   pub writes : {h : History} {s : State} → Given h s → {buffer after : List ℕ} {r : Closed} → CloseCall (s .book) buffer r after → r .refusal ≡ 0 →
       (after ≡ onto buffer (reportFor (termsOf h) (linesTaken h))) × (r .length ≡ length (reportFor (termsOf h) (linesTaken h)))
@@ -53,3 +57,18 @@ pub record CallsDemand3 : Type 0 where
   pub alike : {h k : History} {s u : State} → Given h s → Given k u → termsOf h ≡ termsOf k → List·Permᴰ (linesTaken h) (linesTaken k) →
       {x y after-x after-y : List ℕ} {r q : Closed} → CloseCall (s .book) x r after-x → CloseCall (u .book) y q after-y → r .refusal ≡ 0 → q .refusal ≡ 0 →
       (r .length ≡ q .length) × (take (r .length) after-x ≡ take (q .length) after-y)
+
+-- 02, L1, of every state that the calls gave.
+pub record CallsLoanTable : Type 0 where
+  -- Each cell of the table counts and sums exactly the loans taken of its band and column.
+  pub cells : {h : History} {s : State} → Given h s → (band ltv : ℕ) → 1 ≤ band → band ≤ 12 → 1 ≤ ltv → ltv ≤ 5 →
+      cellAt (s .cells) band ltv ≡ cellFor (termsOf h) (linesTaken h) band ltv
+  -- Over all cells the counts and charges sum to the report's loans and total.
+  pub sums : {h : History} {s : State} → Given h s → CellSums (termsOf h) (linesTaken h)
+  -- The second closing, where it is not refused, writes the 60 lines of the lines taken from the buffer's start, and tells their length.
+  pub writes : {h : History} {s : State} → Given h s → {buffer after : List ℕ} {r : Closed} → CellsCall (s .book) (s .cells) buffer r after → r .refusal ≡ 0 →
+      (after ≡ onto buffer (cellsFor (termsOf h) (linesTaken h))) × (r .length ≡ length (cellsFor (termsOf h) (linesTaken h)))
+  -- Two states under equal terms with the same lines taken, each as often, in whatever order: the bytes written are the same.
+  pub alike : {h k : History} {s u : State} → Given h s → Given k u → termsOf h ≡ termsOf k → List·Permᴰ (linesTaken h) (linesTaken k) →
+      {x y after-x after-y : List ℕ} {r q : Closed} → CellsCall (s .book) (s .cells) x r after-x → CellsCall (u .book) (u .cells) y q after-y →
+      r .refusal ≡ 0 → q .refusal ≡ 0 → (r .length ≡ q .length) × (take (r .length) after-x ≡ take (q .length) after-y)

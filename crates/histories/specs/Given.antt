@@ -11,7 +11,7 @@ use Rattle.book_model.specs.declared.Book.{Book}
 use Rattle.book_model.specs.declared.Closed.{Closed}
 use Rattle.book_model.specs.declared.Fed.{Fed}
 use Rattle.book_model.specs.declared.Opened.{Opened}
-use Rattle.book_model.specs.Calls.{State, stateAt}
+use Rattle.book_model.specs.Calls.{State, Answer, stateAt}
 use Rattle.book_model.specs.History.{History, opened, fed}
 use Rattle.book.proofs.open.Reads as open-reads
 use Rattle.book.proofs.open.Kinds as open-kinds
@@ -21,37 +21,45 @@ use Rattle.book.proofs.feed_with.Reads as with-reads
 use Rattle.book.proofs.feed_with.Kinds as with-kinds
 use Rattle.book.proofs.close.Reads as close-reads
 use Rattle.book.proofs.close.Kinds as close-kinds
+use Rattle.book.proofs.close_cells.Reads as cells-reads
+use Rattle.book.proofs.close_cells.Kinds as cells-kinds
 
--- `open` was called with this line and gave this answer
-pub record OpenCall (line : List ℕ) (r : Opened) : Type 0 where
-  pub lifetimes : Lfts 1
+-- `open` was called with this line and gave this answer: the refusal and the book by value, the table of cells as it left it
+pub record OpenCall (line : List ℕ) (a : Answer) : Type 0 where
+  pub lifetimes : Lfts 2
   pub args : Dens lifetimes open-kinds.ps
-  pub exit : AtExit (endedOf 1 open-kinds.ps open-kinds.r) lifetimes
-  pub learnt : open-reads.Learnt lifetimes args r exit
+  pub result : Opened
+  pub exit : AtExit (endedOf 2 open-kinds.ps open-kinds.r) lifetimes
+  pub learnt : open-reads.Learnt lifetimes args result exit
   pub lent : now (args .0) ≡ line
+  pub gave : record { refusal = result .refusal; state = stateAt (result .book) builtInRates (now (exit .1 .0)) } ≡ a
 
--- `feed` was handed the book of this state, which is under the regulator's table, and this line
-pub record FeedCall (s : State) (line : List ℕ) (r : Fed) : Type 0 where
-  pub lifetimes : Lfts 1
+-- `feed` was handed this state, which is under the regulator's table, and this line
+pub record FeedCall (s : State) (line : List ℕ) (a : Answer) : Type 0 where
+  pub lifetimes : Lfts 2
   pub args : Dens lifetimes feed-kinds.ps
-  pub exit : AtExit (endedOf 1 feed-kinds.ps feed-kinds.r) lifetimes
-  pub learnt : feed-reads.Learnt lifetimes args r exit
-  pub handed : stateAt (args .0) builtInRates ≡ s
-  pub lent : now (args .1 .0) ≡ line
+  pub result : Fed
+  pub exit : AtExit (endedOf 2 feed-kinds.ps feed-kinds.r) lifetimes
+  pub learnt : feed-reads.Learnt lifetimes args result exit
+  pub handed : stateAt (args .0) builtInRates (now (args .1 .0)) ≡ s
+  pub lent : now (args .1 .1 .0) ≡ line
+  pub gave : record { refusal = result .refusal; state = stateAt (result .book) builtInRates (now (exit .1 .0)) } ≡ a
 
 -- `feed_with` was handed this state, its tables lent, and this line
-pub record FeedWithCall (s : State) (line : List ℕ) (r : Fed) : Type 0 where
-  pub lifetimes : Lfts 3
+pub record FeedWithCall (s : State) (line : List ℕ) (a : Answer) : Type 0 where
+  pub lifetimes : Lfts 4
   pub args : Dens lifetimes with-kinds.ps
-  pub exit : AtExit (endedOf 3 with-kinds.ps with-kinds.r) lifetimes
-  pub learnt : with-reads.Learnt lifetimes args r exit
-  pub handed : stateAt (args .0) (now (args .1 .1 .0)) ≡ s
-  pub lent : now (args .1 .1 .1 .0) ≡ line
+  pub result : Fed
+  pub exit : AtExit (endedOf 4 with-kinds.ps with-kinds.r) lifetimes
+  pub learnt : with-reads.Learnt lifetimes args result exit
+  pub handed : stateAt (args .0) (now (args .1 .1 .0)) (now (args .1 .1 .1 .0)) ≡ s
+  pub lent : now (args .1 .1 .1 .1 .0) ≡ line
+  pub gave : record { refusal = result .refusal; state = stateAt (result .book) (now (args .1 .1 .0)) (now (exit .1 .1 .1 .0)) } ≡ a
 
 -- either
-pub data FeedingCall (s : State) (line : List ℕ) (r : Fed) : Type 0 where
-  by-feed : FeedCall s line r → FeedingCall s line r
-  by-feed-with : FeedWithCall s line r → FeedingCall s line r
+pub data FeedingCall (s : State) (line : List ℕ) (a : Answer) : Type 0 where
+  by-feed : FeedCall s line a → FeedingCall s line a
+  by-feed-with : FeedWithCall s line a → FeedingCall s line a
 
 -- `close` was handed this book and lent this buffer, which it left as `after`
 pub record CloseCall (b : Book) (buffer : List ℕ) (r : Closed) (after : List ℕ) : Type 0 where
@@ -63,7 +71,19 @@ pub record CloseCall (b : Book) (buffer : List ℕ) (r : Closed) (after : List �
   pub lent : now (args .1 .0) ≡ buffer
   pub left : now (exit .1 .0) ≡ after
 
--- The calls of a history gave this state: an opening that was not refused, and feedings, each handed what the call before gave back.
+-- `close_cells` was handed this book, its table of cells and this buffer, which it left as `after`
+pub record CellsCall (b : Book) (cells buffer : List ℕ) (r : Closed) (after : List ℕ) : Type 0 where
+  pub lifetimes : Lfts 2
+  pub args : Dens lifetimes cells-kinds.ps
+  pub exit : AtExit (endedOf 2 cells-kinds.ps cells-kinds.r) lifetimes
+  pub learnt : cells-reads.Learnt lifetimes args r exit
+  pub handed : args .0 ≡ b
+  pub table : now (args .1 .0) ≡ cells
+  pub lent : now (args .1 .1 .0) ≡ buffer
+  pub left : now (exit .1 .1 .0) ≡ after
+
+-- The calls of a history gave this state: an opening that was not refused, and feedings, each handed what the call before gave back, its
+-- tables as that call left them.
 pub data Given : History → State → Type 0 where
-  by-opening : (line : List ℕ) (r : Opened) → OpenCall line r → r .refusal ≡ 0 → Given (opened line) (stateAt (r .book) builtInRates)
-  by-feeding : {h : History} {s : State} → Given h s → (line : List ℕ) (r : Fed) → FeedingCall s line r → Given (fed h line) (stateAt (r .book) (s .rates))
+  by-opening : (line : List ℕ) (a : Answer) → OpenCall line a → a .refusal ≡ 0 → Given (opened line) (a .state)
+  by-feeding : {h : History} {s : State} → Given h s → (line : List ℕ) (a : Answer) → FeedingCall s line a → Given (fed h line) (a .state)

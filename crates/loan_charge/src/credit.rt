@@ -96,7 +96,8 @@ fn reached(x: u64, low: u64, step: u64, most: u64) -> u64
     if most < n { most } else { n }
 }
 
-fn band(number: u64) -> usize
+// The band of a score, 0 to 10.
+pub fn band(number: u64) -> usize
     ensures { λ r. ⌜ (r ≡ band number) × (r ≤ 10) ⌝ }
 {
     reached(number, 600, 20, 10) as usize

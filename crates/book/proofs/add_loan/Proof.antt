@@ -1,27 +1,45 @@
 use denote.Ref.{now}
-use Rattle.book_model.specs.Calls.{stateAt}
-use Rattle.book.proofs.Answers.{loan-refused, loan-asks, loan-taken}
+use mathlib.Core.Path.{_≡_}
+use native.Mathlib.Omega.{arith}
+use Rattle.book_model.specs.Calls.{State, stateAt}
+use Rattle.book.proofs.Answers.{loan-refused, loan-asks, cell-asks, loan-taken}
 use borrow.Author.Needs.{needs}
 use Rattle.book.proofs.add_loan.Statement.{statement}
 use Rattle.book.proofs.add_loan.Tie as tie
 
+-- the state that the call is handed
+stateFor : tie.Start → State
+stateFor c = stateAt (c .args .b) (now (c .args .rates)) (now (c .args .cells))
+
 returns : tie.Need-returns
-returns c =
-    let a = c .before .before .before .before .args in
-    loan-refused (stateAt (a .b) (now (a .rates))) (a .l) (c .before .loan-beyond .ensures) (c .if1 .taken)
+unfolding stateFor
+returns c = loan-refused (stateFor (c .before .before .before .before)) (c .before .before .before .before .args .l) (c .before .loan-beyond .ensures) (c .if1 .taken)
+
+add-loan-requires : tie.Need-add-loan-requires
+unfolding stateFor
+add-loan-requires c κs =
+    let k = cell-asks (stateFor (c .before .before .before .before .before .before .before .before)) (c .before .before .before .before .before .before .before .before .args .l) (c .before .before .before .before .before .loan-beyond .ensures) (c .before .before .before .before .if1 .left) (c .before .before .before .loan .ensures) (c .before .before .before .before .before .before .before .before .pre .0) (c .before .before .before .before .before .before .before .before .pre .1) in
+    (c .before .place-of .ensures .1, k .0, k .1, k .2, k .3)
 
 with-share-requires : tie.Need-with-share-requires
+unfolding stateFor
 with-share-requires c κs =
-    let a = c .before .before .before .before .before .args in
-    loan-asks (stateAt (a .b) (now (a .rates))) (a .l) (c .before .before .loan-beyond .ensures) (c .before .if1 .left) (c .loan .ensures)
-    (c .before .before .before .before .before .pre .0) (c .before .before .before .before .before .pre .1)
+    loan-asks (stateFor (c .before .before .before .before .before .before .before .before .before)) (c .before .before .before .before .before .before .before .before .before .args .l) (c .before .before .before .before .before .before .loan-beyond .ensures) (c .before .before .before .before .before .if1 .left) (c .before .before .before .before .loan .ensures) (c .before .before .before .before .before .before .before .before .before .pre .0) (c .before .before .before .before .before .before .before .before .before .pre .1)
 
 returns-2 : tie.Need-returns-2
+unfolding stateFor
 returns-2 c =
-    let a = c .before .before .before .before .before .before .args in
-    loan-taken (stateAt (a .b) (now (a .rates))) (a .l) (c .before .before .before .loan-beyond .ensures) (c .before .before .if1 .left)
-    (c .before .loan .ensures) (c .with-share .ensures)
+    loan-taken (stateFor (c .before .before .before .before .before .before .before .before .before .before)) (c .before .before .before .before .before .before .before .before .before .before .args .l) (c .before .before .before .before .before .before .before .loan-beyond .ensures) (c .before .before .before .before .before .before .if1 .left) (c .before .before .before .before .before .loan .ensures) (c .before .before .before .place-of .ensures .0)
+    (c .with-share .ensures) (c .before .add-loan .ensures)
 
 pub add-loan-spec : {M : Type 1} → statement M
 add-loan-spec =
-    tie.close (tie.spec (λ c κs. search needs) returns (λ c κs. search needs) with-share-requires returns-2)
+    tie.close
+    (tie.spec
+    (λ c κs. search needs)
+    returns
+    (λ c κs. search needs)
+    (λ c κs. search needs)
+    add-loan-requires
+    with-share-requires
+    returns-2)

@@ -1,9 +1,10 @@
 use denote.Ref.{now}
-use mathlib.Core.Path.{refl, subst}
+use mathlib.Core.Path.{refl, ap, subst}
 use Rattle.line_forms.specs.declared.Line.{Line}
 use Rattle.line_forms.specs.declared.Line.the-variants.{Policy as PolicyLine, Derivative as DerivativeLine, Asset as AssetLine, Amount as AmountLine}
 use Rattle.line_forms.specs.Claims.{lineContent}
-use Rattle.book_model.specs.Calls.{stateAt}
+use Rattle.book_model.specs.Calls.{State, Answer, stateAt, fedOf}
+use Rattle.book_model.specs.Cells.{cellsWith}
 use Rattle.book_model.specs.LineKinds.{contentKind}
 use Rattle.book_model.specs.Ranges.{Ranged, PolicyRanges, AmountRanges}
 use Rattle.book_model.specs.Share.{share}
@@ -13,21 +14,21 @@ use borrow.Author.Needs.{needs}
 use Rattle.book.proofs.feed_line.Statement.{statement}
 use Rattle.book.proofs.feed_line.Tie as tie
 
+-- the state that the call is handed
+stateFor : tie.Start → State
+stateFor c = stateAt (c .args .b) (now (c .args .rates)) (now (c .args .cells))
+
 add-loan-requires : tie.Need-add-loan-requires
-add-loan-requires c κs = (
-  c .before .before .before .pre .0,
-  subst (λ (l : Line). Ranged (lineContent l)) (c .before .line .given .1) (c .before .before .before .pre .1),
-  c .before .before .before .pre .2,
-)
+add-loan-requires c κs = (c .before .before .before .before .pre .0, subst (λ (l : Line). Ranged (lineContent l)) (c .before .before .line .given .1) (c .before .before .before .before .pre .1), c .before .before .before .before .pre .2)
 
 policy-requires : tie.Need-policy-requires
 policy-requires c κs = let r : PolicyRanges (c .before .line2 .given .0 .0) =
     subst (λ (l : Line). Ranged (lineContent l)) (c .before .line2 .given .1) (c .before .before .before .pre .1) in r .premium
 
 add-other-requires : tie.Need-add-other-requires
-unfolding share contentKind
+unfolding stateFor share contentKind
 add-other-requires c κs =
-    other-asked (stateAt (c .before .before .before .before .args .b) (now (c .before .before .before .before .args .rates)))
+    other-asked (stateFor (c .before .before .before .before))
     (PolicyLine (c .before .before .line2 .given .0 .0)) refl (c .before .before .line2 .given .1) (c .policy .ensures)
     (c .before .before .before .before .pre .0) (c .before .before .before .before .pre .1)
 
@@ -35,9 +36,9 @@ derivative-requires : tie.Need-derivative-requires
 derivative-requires c κs = subst (λ (l : Line). Ranged (lineContent l)) (c .before .line3 .given .1) (c .before .before .before .pre .1)
 
 add-other-requires-2 : tie.Need-add-other-requires-2
-unfolding share contentKind
+unfolding stateFor share contentKind
 add-other-requires-2 c κs =
-    other-asked (stateAt (c .before .before .before .before .args .b) (now (c .before .before .before .before .args .rates)))
+    other-asked (stateFor (c .before .before .before .before))
     (DerivativeLine (c .before .before .line3 .given .0 .0)) refl (c .before .before .line3 .given .1) (c .derivative .ensures)
     (c .before .before .before .before .pre .0) (c .before .before .before .before .pre .1)
 
@@ -45,9 +46,9 @@ asset-requires : tie.Need-asset-requires
 asset-requires c κs = subst (λ (l : Line). Ranged (lineContent l)) (c .before .line4 .given .1) (c .before .before .before .pre .1)
 
 add-other-requires-3 : tie.Need-add-other-requires-3
-unfolding share contentKind
+unfolding stateFor share contentKind
 add-other-requires-3 c κs =
-    other-asked (stateAt (c .before .before .before .before .args .b) (now (c .before .before .before .before .args .rates)))
+    other-asked (stateFor (c .before .before .before .before))
     (AssetLine (c .before .before .line4 .given .0 .0)) refl (c .before .before .line4 .given .1) (c .asset .ensures)
     (c .before .before .before .before .pre .0) (c .before .before .before .before .pre .1)
 
@@ -56,48 +57,40 @@ amount-requires c κs = let r : AmountRanges (c .before .before .line5 .given .0
     subst (λ (l : Line). Ranged (lineContent l)) (c .before .before .line5 .given .1) (c .before .before .before .before .pre .1) in r .plus
 
 add-other-requires-4 : tie.Need-add-other-requires-4
-unfolding share contentKind
+unfolding stateFor share contentKind
 add-other-requires-4 c κs =
-    other-asked (stateAt (c .before .before .before .before .before .args .b) (now (c .before .before .before .before .before .args .rates)))
+    other-asked (stateFor (c .before .before .before .before .before))
     (AmountLine (c .before .before .before .line5 .given .0 .0)) refl (c .before .before .before .line5 .given .1) (c .amount .ensures)
     (c .before .before .before .before .before .pre .0) (c .before .before .before .before .before .pre .1)
 
 returns : tie.Need-returns
-returns c =
-    loan-fed (stateAt (c .before .before .before .before .args .b) (now (c .before .before .before .before .args .rates)))
-    (c .before .before .line .given .0 .0) (c .before .before .line .given .1) (c .add-loan .ensures)
+unfolding stateFor
+returns c = loan-fed (stateFor (c .before .before .before .before .before)) (c .before .before .before .line .given .0 .0) (c .before .before .before .line .given .1) (c .add-loan .ensures .0) (c .add-loan .ensures .1)
 
 returns-2 : tie.Need-returns-2
-unfolding share contentKind
-returns-2 c =
-    other-fed (stateAt (c .before .before .before .before .before .args .b) (now (c .before .before .before .before .before .args .rates)))
-    (PolicyLine (c .before .before .before .line2 .given .0 .0)) refl (c .before .before .before .line2 .given .1) (c .before .policy .ensures)
-    (c .add-other .ensures)
+unfolding stateFor share contentKind cellsWith
+returns-2 c = other-fed (stateFor (c .before .before .before .before .before)) (PolicyLine (c .before .before .before .line2 .given .0 .0)) refl (c .before .before .before .line2 .given .1) (c .before .policy .ensures) refl (c .add-other .ensures)
 
 returns-3 : tie.Need-returns-3
-unfolding share contentKind
+unfolding stateFor share contentKind cellsWith
 returns-3 c =
-    other-fed (stateAt (c .before .before .before .before .before .args .b) (now (c .before .before .before .before .before .args .rates)))
-    (DerivativeLine (c .before .before .before .line3 .given .0 .0)) refl (c .before .before .before .line3 .given .1) (c .before .derivative .ensures)
+    other-fed (stateFor (c .before .before .before .before .before)) (DerivativeLine (c .before .before .before .line3 .given .0 .0)) refl (c .before .before .before .line3 .given .1) (c .before .derivative .ensures) refl
     (c .add-other2 .ensures)
 
 returns-4 : tie.Need-returns-4
-unfolding share contentKind
-returns-4 c =
-    other-fed (stateAt (c .before .before .before .before .before .args .b) (now (c .before .before .before .before .before .args .rates)))
-    (AssetLine (c .before .before .before .line4 .given .0 .0)) refl (c .before .before .before .line4 .given .1) (c .before .asset .ensures)
-    (c .add-other3 .ensures)
+unfolding stateFor share contentKind cellsWith
+returns-4 c = other-fed (stateFor (c .before .before .before .before .before)) (AssetLine (c .before .before .before .line4 .given .0 .0)) refl (c .before .before .before .line4 .given .1) (c .before .asset .ensures) refl (c .add-other3 .ensures)
 
 returns-5 : tie.Need-returns-5
-unfolding share contentKind
+unfolding stateFor share contentKind cellsWith
 returns-5 c =
-    other-fed (stateAt (c .before .before .before .before .before .before .args .b) (now (c .before .before .before .before .before .before .args .rates)))
-    (AmountLine (c .before .before .before .before .line5 .given .0 .0)) refl (c .before .before .before .before .line5 .given .1)
-    (c .before .amount .ensures) (c .add-other4 .ensures)
+    other-fed (stateFor (c .before .before .before .before .before .before)) (AmountLine (c .before .before .before .before .line5 .given .0 .0)) refl (c .before .before .before .before .line5 .given .1) (c .before .amount .ensures) refl (c .add-other4 .ensures)
 
 returns-6 : tie.Need-returns-6
-returns-6 c = rw (c .before .line6 .given .1) (fed-refused (stateAt (c .before .before .before .args .b) (now (c .before .before .before .args .rates)))
-    (c .before .line6 .given .0 .0))
+unfolding stateFor
+returns-6 c =
+    let e = fed-refused (stateFor (c .before .before .before)) (c .before .line6 .given .0 .0) in
+    rw (c .before .line6 .given .1) (ap fedOf e, ap (λ (a : Answer). a .state .cells) e)
 
 pub feed-line-spec : {M : Type 1} → statement M
 feed-line-spec =

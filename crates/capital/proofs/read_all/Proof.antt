@@ -1,8 +1,8 @@
 -- `read_all` meets its contract.
 use denote.Ref.{now}
-use mathlib.Core.Path.{_≡_}
+use mathlib.Core.Path.{_≡_, sym, _∙_}
 use mathlib.Core.Bool.{false}
-use Prim.Native.Nat.{_+_, _*_, _^_, _≤_}
+use Prim.Native.Nat.{_+_, _-_, _*_, _^_, _≤_}
 use native.Mathlib.Omega.{arith}
 use lib.ListN.{length}
 use borrow.Author.Needs.{needs}
@@ -15,47 +15,52 @@ use Rattle.capital.proofs.read_all.Statement.{statement}
 use Rattle.capital.proofs.read_all.Tie as tie
 
 abbrev Inv-loop : tie.InvT-loop
-Inv-loop exps rates buf₀ run₀ turns₀ buf run turns =
-    Running run rates × Reached (readingOf run rates) (run .read) × (run .read + 65536 * turns ≤ 2 ^ 60) × (exps ≡ exponentials) × (rates ≡ builtInRates)
-    × (length buf ≡ 65536)
+Inv-loop exps rates cells₀ buf₀ run₀ turns₀ cells buf run turns =
+    Running run rates cells × Reached (readingOf run rates cells) (run .read) × (run .read + 65536 * turns ≤ 2 ^ 60) × (exps ≡ exponentials)
+    × (rates ≡ builtInRates) × (length buf ≡ 65536)
 
 abbrev μ-loop : tie.MeasureT-loop
-μ-loop exps rates buf₀ run₀ turns₀ buf run turns = turns
+μ-loop exps rates cells₀ buf₀ run₀ turns₀ cells buf run turns = turns
 
 loop-holds : tie.Need-loop-holds Inv-loop μ-loop
 loop-holds c =
-    let a = c .before .before .args in
-    let e = c .before .before .pre .1 in
+    let e = c .before .before .before .pre .1 in
     let k = c .start .ensures in (
       rw e (k .1 .0),
-      rw e (reached-none (readingOf (c .start .result) builtInRates) (c .start .result .read) (k .0) (k .1 .1)),
+      rw e (reached-none (readingOf (c .start .result) builtInRates (c .start .last .0)) (c .start .result .read) (k .0) (k .1 .1)),
       omega (arith, k .1 .1),
-      c .before .before .pre .0,
+      c .before .before .before .pre .0,
       e,
       search needs,
     )
 
 read-once-requires : tie.Need-read-once-requires Inv-loop μ-loop
 read-once-requires c κs =
-    let l = c .before .before .loop in
+    let l = c .before .before .before .loop in
     (l .inv .0, omega (arith, l .inv .2, l .inv .5), l .inv .3, l .inv .4)
 
 returns : tie.Need-returns Inv-loop μ-loop
 returns c =
-    let l = c .before .before .before .before .before .before .before .loop in
+    let l = c .before .before .before .before .before .before .before .before .loop in
     let r = c .before .before .before .before .read-once in (
       rw (r .ensures .1 .0 .1) (reached-on (l .inv .1) (r .ensures .0)),
       ((r .ensures .1 .0 .0, omega (arith, r .ensures .1 .0 .1, r .ensures .0 .count, l .inv .2)), ends-now (r .ensures .1 .1) (search needs)),
     )
 
+same-length : tie.Need-same-length Inv-loop μ-loop
+same-length c = c .before .before .before .buf .given ∙ c .before .before .before .before .before .before .before .before .loop .inv .5 ∙ sym (c .before .before .before .before .before .before .before .before .before .before .before .before .pre .2)
+
 loop-again : tie.Need-loop-again Inv-loop μ-loop
 loop-again c =
-    let l = c .before .before .before .before .before .before .before .before .loop in
+    let l = c .before .before .before .before .before .before .before .before .before .loop in
     let r = c .before .before .before .before .before .read-once in
-    let n : length (r .last .1 .1 .1 .0) ≡ 65536 = search needs in (
+    let n : length (r .last .1 .1 .1 .1 .0) ≡ 65536 = c .before .before .before .before .buf .given ∙ l .inv .5 in
+    let few : r .result .count ≤ length (r .last .1 .1 .1 .1 .0) = r .ensures .0 .count in
+    let on : r .result .run .read ≡ l .run .read + r .result .count = r .ensures .1 .0 .1 in
+    let left : r .result .run .read + 65536 * (l .turns - 1) ≤ 2 ^ 60 = omega (arith, on, few, n, l .inv .2, c .before .before .before .before .before .before .before .before .loop-test .taken) in (
       r .ensures .1 .0 .0,
-      rw (r .ensures .1 .0 .1) (reached-on (l .inv .1) (r .ensures .0)),
-      omega (arith, r .ensures .1 .0 .1, r .ensures .0 .count, l .inv .2),
+      rw on (reached-on (l .inv .1) (r .ensures .0)),
+      left,
       l .inv .3,
       l .inv .4,
       n,
@@ -64,7 +69,7 @@ loop-again c =
 returns-2 : tie.Need-returns-2 Inv-loop μ-loop
 returns-2 c =
     let l = c .before .loop in
-    (l .inv .1, ((l .inv .0, omega (arith, l .inv .2)), ends-failed (readingOf (l .run) (now (c .before .before .before .before .args .rates))) 0 false))
+    (l .inv .1, ((l .inv .0, omega (arith, l .inv .2)), ends-failed (readingOf (l .run) (now (c .before .before .before .before .before .args .rates)) (l .cells)) 0 false))
 
 pub read-all-spec : {M : Type 1} → statement M
 read-all-spec =
@@ -75,7 +80,7 @@ read-all-spec =
     (λ c κs. search needs)
     loop-holds
     read-once-requires
-    (λ c. search needs)
+    same-length
     returns
     (λ c. search needs)
     (λ c. search needs)

@@ -15,12 +15,12 @@ use Rattle.driver.proofs.lines.Statement.{statement}
 use Rattle.driver.proofs.lines.Tie as tie
 
 abbrev Inv-loop : tie.InvT-loop
-Inv-loop exps rates bytes size p₀ i₀ p i =
-    (record { stage = stageAt p rates; tail = [] } ≡ withBytes (record { stage = stageAt p₀ rates; tail = [] }) (take i bytes))
-    × Sound (stateAt (p .book) rates) × (p .number ≤ p₀ .number + i) × (i ≤ length bytes) × (exps ≡ exponentials) × (rates ≡ builtInRates)
+Inv-loop exps rates cells₀ bytes size p₀ i₀ cells p i =
+    (record { stage = stageAt p rates cells; tail = [] } ≡ withBytes (record { stage = stageAt p₀ rates cells₀; tail = [] }) (take i bytes))
+    × Sound (stateAt (p .book) rates cells) × (p .number ≤ p₀ .number + i) × (i ≤ length bytes) × (exps ≡ exponentials) × (rates ≡ builtInRates)
 
 abbrev μ-loop : tie.MeasureT-loop
-μ-loop exps rates bytes size p₀ i₀ p i = length bytes - i
+μ-loop exps rates cells₀ bytes size p₀ i₀ cells p i = length bytes - i
 
 loop-holds : tie.Need-loop-holds Inv-loop μ-loop
 unfolding withBytes
@@ -57,23 +57,23 @@ part-end-line-end c = search needs
 
 end-line-requires : tie.Need-end-line-requires Inv-loop μ-loop
 end-line-requires c κs =
-    let l = c .before .before .before .before .loop in
-    (l .inv .1, omega (arith, c .before .before .before .before .before .before .pre .1), l .inv .4, l .inv .5)
+    let l = c .before .before .before .before .before .loop in
+    (l .inv .1, omega (arith, c .before .before .before .before .before .before .before .pre .1), l .inv .4, l .inv .5)
 
 add-i : tie.Need-add-i Inv-loop μ-loop
-add-i c = record { fits = omega (arith, c .before .before .before .before .before .before .before .pre .1, c .before .before .if1 .left) }
+add-i c = record { fits = omega (arith, c .before .before .before .before .before .before .before .before .pre .1, c .before .before .before .if1 .left) }
 
 loop-less : tie.Need-loop-less Inv-loop μ-loop
 loop-less c = search needs
 
 loop-again : tie.Need-loop-again Inv-loop μ-loop
 loop-again c =
-    let a = c .before .before .before .before .before .before .before .args in
-    let l = c .before .before .before .before .before .loop in
-    let e = c .before .before .before .line-end in (
+    let a = c .before .before .before .before .before .before .before .before .args in
+    let l = c .before .before .before .before .before .before .loop in
+    let e = c .before .before .before .before .line-end in (
       (λ j. record { stage = c .end-line .ensures .0 j; tail = [] })
-          ∙ sym (line-read (record { stage = stageAt (a .before) (a .rates .now); tail = [] }) (a .bytes .now) (stageAt (l .p) (a .rates .now)) (l .i)
-          (e .result) (l .inv .0) (omega arith) (e .ensures .0) (omega arith)),
+          ∙ sym (line-read (record { stage = stageAt (a .before) (a .rates .now) (a .cells .now); tail = [] }) (a .bytes .now)
+          (stageAt (l .p) (a .rates .now) (l .cells)) (l .i) (e .result) (l .inv .0) (omega arith) (e .ensures .0) (omega arith)),
       c .end-line .ensures .1 .0,
       omega (arith, c .end-line .ensures .1 .1, l .inv .2, e .ensures .1),
       omega arith,

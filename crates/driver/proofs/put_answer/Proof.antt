@@ -4,11 +4,14 @@ use native.Mathlib.Omega.{arith}
 use lib.ListN.{length}
 use borrow.Author.Needs.{needs}
 use Rattle.loan_charge.specs.CreditFactor.{builtInRates}
-use Rattle.book_model.specs.Calls.{stateAt}
-use Rattle.driver.specs.Reading.{stageAt}
-use Rattle.driver.proofs.Answers.{refusal-room, printed-refused, printed-empty, printed-end, closing-refused, closing-written}
+use Rattle.driver.specs.Reading.{Stage, stageAt}
+use Rattle.driver.proofs.Answers.{refusal-room, printed-refused, printed-empty, printed-end}
 use Rattle.driver.proofs.put_answer.Statement.{statement}
 use Rattle.driver.proofs.put_answer.Tie as tie
+
+-- the stage that the call is handed
+stageFor : tie.Start → Stage
+stageFor c = stageAt (c .args .p) builtInRates (now (c .args .cells))
 
 put-refusal-requires : tie.Need-put-refusal-requires
 put-refusal-requires c κs =
@@ -16,45 +19,19 @@ put-refusal-requires c κs =
     refusal-room (a .p .refusal) (a .p .number) (length (now (a .out))) (omega arith) (omega arith) (omega arith)
 
 returns : tie.Need-returns
-returns c =
-    rw (printed-refused (stageAt (c .before .before .before .before .before .before .args .p) builtInRates) (c .before .before .before .before .if1 .taken))
-    (c .before .before .put-refusal .ensures)
+unfolding stageFor
+returns c = rw (printed-refused (c .before .before .before .before .before .before .args .asked) (stageFor (c .before .before .before .before .before .before)) (c .before .before .before .before .if1 .taken)) (c .before .before .put-refusal .ensures)
 
 put-refusal-requires-2 : tie.Need-put-refusal-requires-2
 put-refusal-requires-2 c κs = refusal-room 2 1 (length (now (c .before .before .before .before .args .out))) (omega arith) (omega arith) (omega arith)
 
 returns-2 : tie.Need-returns-2
-returns-2 c =
-    rw (printed-empty (stageAt (c .before .before .before .before .before .before .before .args .p) builtInRates)
-    (c .before .before .before .before .before .if1 .left) (c .before .before .before .before .if2 .taken))
-    (c .before .before .put-refusal2 .ensures)
-
-put-refusal-requires-3 : tie.Need-put-refusal-requires-3
-put-refusal-requires-3 c κs =
-    refusal-room 6 (c .before .before .before .before .before .before .before .before .before .before .before .args .p .number) _ (omega arith) (omega arith)
-    (search needs)
+unfolding stageFor
+returns-2 c = rw (printed-empty (c .before .before .before .before .before .before .before .args .asked) (stageFor (c .before .before .before .before .before .before .before)) (c .before .before .before .before .before .if1 .left) (c .before .before .before .before .if2 .taken)) (c .before .before .put-refusal2 .ensures)
 
 returns-3 : tie.Need-returns-3
-returns-3 c =
-    let a = c .before .before .before .before .before .before .before .before .before .before .before .before .before .before .args in
-    let d = c .before .before .before .before .before .before .before .before .close in
-    let k = closing-refused (stateAt (a .p .book) builtInRates) (now (a .out)) (omega arith) (d .ensures .0) (d .ensures .1)
-    (c .before .before .before .before .if3 .taken) in
-    rw (
-      printed-end (stageAt (a .p) builtInRates) (c .before .before .before .before .before .before .before .before .before .before .before .before .if1 .left)
-          (c .before .before .before .before .before .before .before .before .before .before .before .if2 .left),
-      k .1 (a .p .number),
-      ← k .0,
-    )
-    (c .before .before .put-refusal3 .ensures)
-
-returns-4 : tie.Need-returns-4
-returns-4 c =
-    let a = c .before .before .before .before .before .before .before .before .before .before .args in
-    let d = c .before .before .before .before .close in
-    rw (printed-end (stageAt (a .p) builtInRates) (c .before .before .before .before .before .before .before .before .if1 .left)
-    (c .before .before .before .before .before .before .before .if2 .left))
-    (closing-written (stateAt (a .p .book) builtInRates) (now (a .out)) (omega arith) (d .ensures .0) (d .ensures .1) (c .if3 .left) (a .p .number))
+unfolding stageFor
+returns-3 c = rw (printed-end (c .before .before .before .before .before .before .before .before .args .asked) (stageFor (c .before .before .before .before .before .before .before .before)) (c .before .before .before .before .before .before .if1 .left) (c .before .before .before .before .before .if2 .left)) (c .before .before .put-closing .ensures)
 
 pub put-answer-spec : {M : Type 1} → statement M
 put-answer-spec =
@@ -67,8 +44,5 @@ put-answer-spec =
     (λ c. search needs)
     returns-2
     (λ c κs. search needs)
-    put-refusal-requires-3
     (λ c. search needs)
-    returns-3
-    (λ c. search needs)
-    returns-4)
+    returns-3)

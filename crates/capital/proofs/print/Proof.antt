@@ -1,19 +1,19 @@
--- `main` meets its contract.
+-- `print` meets its contract.
 use Prim.Native.Nat.{_≤_}
 use lib.ListN.{length}
 use borrow.Author.Needs.{needs}
 use Rattle.driver.proofs.Answers.{written-within}
-use Rattle.capital.proofs.main.Statement.{statement}
-use Rattle.capital.proofs.main.Tie as tie
+use Rattle.capital.proofs.print.Statement.{statement}
+use Rattle.capital.proofs.print.Tie as tie
 
 part-write-all-end : tie.Need-part-write-all-end
 part-write-all-end c =
     let f = c .before .before .finish in
-    let h : f .result ≤ length (f .last .1 .1 .1 .0) = written-within (f .ensures .0) in
+    let h : f .result ≤ length (f .last .1 .1 .1 .1 .1 .0) = written-within (f .ensures .0) in
     search needs
 
-pub main-spec : {M : Type 1} → statement M
-main-spec =
+pub print-spec : {M : Type 1} → statement M
+print-spec =
     tie.close
     (tie.spec
     (λ c κs. search needs)

@@ -1,0 +1,339 @@
+-- Request L1 over the definitions: the table is that of the loans taken, cell by cell. Assumes nothing.
+use mathlib.Core.Path.{_≡_, refl, sym, _∙_, ap, ap₂}
+use mathlib.Core.Bool.{Bool, true, false, _&&_, true≢false, false≢true}
+use mathlib.Core.List.{List, [], _∷_, List·Permᴰ, List·Permᴰ·nil, List·Permᴰ·cons, List·Permᴰ·swap, List·Permᴰ·trans}
+use Prim.Native.Nat.{ℕ, zero, suc, _+_, _≤_, _<_}
+use native.Mathlib.Omega.{arith}
+use lib.Dec.{eqb}
+use lib.ListN.{getD}
+use borrow.Author.Tests.{eqb-true, eqb-false, eq-eqb, ne-eqb}
+use Rattle.exact.specs.Choice.{pick}
+use Rattle.fixed_point.specs.declared.Signed.{Signed}
+use Rattle.line_forms.specs.declared.Loan.{Loan}
+use Rattle.line_forms.specs.declared.Content.{Content}
+use Rattle.line_forms.specs.declared.Content.the-variants.{Loan as loan}
+use Rattle.line_forms.specs.Claims.{lineContent}
+use Rattle.line_forms.specs.Readings.{lineOf}
+use Rattle.figures.specs.Sums.{sumOf}
+use Rattle.cell_report.specs.declared.Cell.{Cell}
+use Rattle.cell_report.specs.CellReport.{placeOf, cellAt}
+use Rattle.cell_report.proofs.Laws.{cells-alike}
+use Rattle.book_model.specs.Accepted.{Accepted}
+use Rattle.book_model.specs.Calls.{State, cellsSize, cellsTextOf}
+use Rattle.book_model.specs.Cells.{loanBand, loanLtv, ofLoan}
+use Rattle.book_model.specs.Demand3.{figuresFor}
+use Rattle.book_model.specs.History.{opened, allFed, termsOf, acceptedOf, linesTaken, sumsOf}
+use Rattle.book_model.specs.LineKinds.{kindCounts}
+use Rattle.book_model.specs.LoanTable.{sumBy, inCell, cellFor, cellsFor, sumTo, overCells, CellSums, WritesCells, SameTables, LoanTable}
+use Rattle.book_model.specs.Share.{loanNumbers, loanShare, share}
+use Rattle.book_model.specs.Terms.{Terms}
+use Rattle.book_model.proofs.Bands.{bands, columns}
+use Rattle.book_model.proofs.Cells.{Between, band-between, ltv-between, Held, a-loan, no-loan, held}
+use Rattle.book_model.proofs.Demand3.{after-is, writes-of, same-texts}
+use Rattle.book_model.proofs.Shapes.{Shape, of-loan, of-other, of-none, shape}
+use Rattle.book_model.proofs.Steps.{bookOf, stateOf}
+use Rattle.book_model.proofs.Tables.{placed, placedBy, cellsOf, cells-at, place-room}
+
+-- Sums over the lines
+
+sum-alike : {f g : Content → ℕ} → ((c : Content) → f c ≡ g c) → (kept : List (List ℕ)) → sumBy f kept ≡ sumBy g kept
+unfolding sumBy
+sum-alike e [] = refl
+sum-alike e (s ∷ kept) = ap₂ _+_ (e (lineContent (lineOf s))) (sum-alike e kept)
+
+sum-permuted : (f : Content → ℕ) {kept others : List (List ℕ)} → List·Permᴰ kept others → sumBy f kept ≡ sumBy f others
+unfolding sumBy
+sum-permuted f List·Permᴰ·nil = refl
+sum-permuted f (List·Permᴰ·cons e p) = ap₂ (λ (s : List ℕ) (n : ℕ). f (lineContent (lineOf s)) + n) e (sum-permuted f p)
+sum-permuted f (List·Permᴰ·swap {a} {b} {a′} {b′} {l} e g) =
+    omega (arith, ap (λ (s : List ℕ). f (lineContent (lineOf s))) e, ap (λ (s : List ℕ). f (lineContent (lineOf s))) g)
+sum-permuted f (List·Permᴰ·trans p q) = sum-permuted f p ∙ sum-permuted f q
+
+-- The four places of a cell
+
+yes-at : (i at x : ℕ) → i ≡ at → pick (eqb i at) x 0 ≡ x
+yes-at i at x e = rw (eq-eqb i at e) refl
+
+not-at : (i at x : ℕ) → (i ≡ at → ⊥) → pick (eqb i at) x 0 ≡ 0
+not-at i at x e = rw (ne-eqb i at e) refl
+
+-- what a loan adds at the place i of a table, by where its cell's places begin
+module _ (i place balance : ℕ) (charge : Signed) where
+  adds-count : i ≡ place → placed i place balance charge ≡ 1
+  unfolding placed
+  adds-count e =
+      omega (
+        arith,
+        yes-at i place 1 e,
+        not-at i (place + 1) balance (λ f. omega (arith, e, f)),
+        not-at i (place + 2) (charge .plus) (λ f. omega (arith, e, f)),
+        not-at i (place + 3) (charge .minus) (λ f. omega (arith, e, f)),
+      )
+
+  adds-balance : i ≡ place + 1 → placed i place balance charge ≡ balance
+  unfolding placed
+  adds-balance e =
+      omega (
+        arith,
+        not-at i place 1 (λ f. omega (arith, e, f)),
+        yes-at i (place + 1) balance e,
+        not-at i (place + 2) (charge .plus) (λ f. omega (arith, e, f)),
+        not-at i (place + 3) (charge .minus) (λ f. omega (arith, e, f)),
+      )
+
+  adds-plus : i ≡ place + 2 → placed i place balance charge ≡ charge .plus
+  unfolding placed
+  adds-plus e =
+      omega (
+        arith,
+        not-at i place 1 (λ f. omega (arith, e, f)),
+        not-at i (place + 1) balance (λ f. omega (arith, e, f)),
+        yes-at i (place + 2) (charge .plus) e,
+        not-at i (place + 3) (charge .minus) (λ f. omega (arith, e, f)),
+      )
+
+  adds-minus : i ≡ place + 3 → placed i place balance charge ≡ charge .minus
+  unfolding placed
+  adds-minus e =
+      omega (
+        arith,
+        not-at i place 1 (λ f. omega (arith, e, f)),
+        not-at i (place + 1) balance (λ f. omega (arith, e, f)),
+        not-at i (place + 2) (charge .plus) (λ f. omega (arith, e, f)),
+        yes-at i (place + 3) (charge .minus) e,
+      )
+
+  adds-none : ((j : ℕ) → j < 4 → i ≡ place + j → ⊥) → placed i place balance charge ≡ 0
+  unfolding placed
+  adds-none h =
+      omega (
+        arith,
+        not-at i place 1 (λ f. h 0 (omega arith) (omega (arith, f))),
+        not-at i (place + 1) balance (h 1 (omega arith)),
+        not-at i (place + 2) (charge .plus) (h 2 (omega arith)),
+        not-at i (place + 3) (charge .minus) (h 3 (omega arith)),
+      )
+
+-- Two cells are the same where band and column are, and else have no place in common.
+
+both : (a b : Bool) → (a && b) ≡ true → (a ≡ true) × (b ≡ true)
+both true true e = (refl, refl)
+both true false e = absurd (false≢true e)
+both false b e = absurd (false≢true e)
+
+module _ (band ltv : ℕ) (l : Loan) (b : Between 1 12 band) (k : Between 1 5 ltv) where
+  same-cell : (eqb (loanBand l) band && eqb (loanLtv l) ltv) ≡ true → placeOf (loanBand l) (loanLtv l) ≡ placeOf band ltv
+  same-cell e =
+      let (x, y) = both (eqb (loanBand l) band) (eqb (loanLtv l) ltv) e in
+      ap₂ placeOf (eqb-true (loanBand l) band x) (eqb-true (loanLtv l) ltv y)
+
+  other-cell : (eqb (loanBand l) band && eqb (loanLtv l) ltv) ≡ false → (i j : ℕ) → i < 4 → j < 4 →
+      placeOf band ltv + i ≡ placeOf (loanBand l) (loanLtv l) + j → ⊥
+  other-cell e i j h m f =
+      let x = band-between (l .score) in
+      let y = ltv-between (l .value) (l .balance) in
+      let same : (loanBand l ≡ band) × (loanLtv l ≡ ltv) =
+      (omega (arith, f, b .least, b .most, k .least, k .most, x .least, x .most, y .least, y .most), omega (arith, f, b .least, b .most, k .least, k .most, x .least, x .most, y .least, y .most)) in
+      true≢false (sym (rw (eq-eqb (loanBand l) band (same .0), eq-eqb (loanLtv l) ltv (same .1)) refl) ∙ e)
+
+-- The place j of a cell sums f over the loans of its band and column, where f is what a loan adds there.
+module _ (t : Terms) (band ltv j : ℕ) (b : Between 1 12 band) (k : Between 1 5 ltv) (few : j < 4) (f : Loan → ℕ)
+    (adds : (l : Loan) (i : ℕ) → i ≡ placeOf (loanBand l) (loanLtv l) + j →
+    placed i (placeOf (loanBand l) (loanLtv l)) (l .balance) (loanNumbers t l .total) ≡ f l) where
+  placed-loan : (l : Loan) (i : ℕ) → i ≡ placeOf band ltv + j →
+      placed i (placeOf (loanBand l) (loanLtv l)) (l .balance) (loanNumbers t l .total) ≡ inCell band ltv f (loan l)
+  placed-loan l i e = go (eqb (loanBand l) band && eqb (loanLtv l) ltv) refl
+    where
+      go : (test : Bool) → (eqb (loanBand l) band && eqb (loanLtv l) ltv) ≡ test →
+          placed i (placeOf (loanBand l) (loanLtv l)) (l .balance) (loanNumbers t l .total) ≡ pick test (f l) 0
+      go true s = adds l i (e ∙ ap (λ (x : ℕ). x + j) (sym (same-cell band ltv l b k s)))
+      go false s = adds-none i (placeOf (loanBand l) (loanLtv l)) (l .balance) (loanNumbers t l .total)
+          (λ m h g. other-cell band ltv l b k s j m few h (sym e ∙ g))
+
+  placed-line : (c : Content) (i : ℕ) → i ≡ placeOf band ltv + j → placedBy t i c ≡ inCell band ltv f c
+  unfolding placedBy
+  placed-line c i e = go (held c)
+    where
+      go : {c : Content} → Held c → placedBy t i c ≡ inCell band ltv f c
+      go (a-loan l) = placed-loan l i e
+      go (no-loan n) =
+          n ℕ (λ l. placed i (placeOf (loanBand l) (loanLtv l)) (l .balance) (loanNumbers t l .total)) 0
+          ∙ sym (n ℕ (λ l. pick (eqb (loanBand l) band && eqb (loanLtv l) ltv) (f l) 0) 0)
+
+  cell-part : (kept : List (List ℕ)) (i : ℕ) → i ≡ placeOf band ltv + j → getD (cellsOf t kept) i 0 ≡ sumBy (inCell band ltv f) kept
+  cell-part kept i e = cells-at t kept i (omega (arith, e, place-room band ltv b k)) ∙ sum-alike (λ c. placed-line c i e) kept
+
+-- A cell of the table is that of the lines taken.
+pub cell-is : (t : Terms) (kept : List (List ℕ)) (band ltv : ℕ) → 1 ≤ band → band ≤ 12 → 1 ≤ ltv → ltv ≤ 5 →
+    cellAt (cellsOf t kept) band ltv ≡ cellFor t kept band ltv
+unfolding cellFor
+cell-is t kept band ltv b c k m =
+    let x : Between 1 12 band = record { least = b; most = c } in
+    let y : Between 1 5 ltv = record { least = k; most = m } in
+    λ i. record {
+      count = cell-part t band ltv 0 x y (omega arith) (λ l. 1) (λ l n e. adds-count n _ (l .balance) (loanNumbers t l .total) (omega (arith, e)))
+          kept (placeOf band ltv) (omega arith) i;
+      balance = cell-part t band ltv 1 x y (omega arith) (λ l. l .balance) (λ l n e. adds-balance n _ (l .balance) (loanNumbers t l .total) e)
+          kept (placeOf band ltv + 1) refl i;
+      charge = record {
+        plus = cell-part t band ltv 2 x y (omega arith) (λ l. loanNumbers t l .total .plus) (λ l n e. adds-plus n _ (l .balance) (loanNumbers t l .total) e)
+            kept (placeOf band ltv + 2) refl i;
+        minus = cell-part t band ltv 3 x y (omega arith) (λ l. loanNumbers t l .total .minus) (λ l n e. adds-minus n _ (l .balance) (loanNumbers t l .total) e)
+            kept (placeOf band ltv + 3) refl i;
+      };
+    }
+
+pub cells-text : (t : Terms) (kept : List (List ℕ)) → cellsTextOf (cellsOf t kept) ≡ cellsFor t kept
+unfolding cellsFor
+cells-text t kept = cells-alike (cell-is t kept)
+
+-- Over all cells
+
+sum-to-zero : (n : ℕ) → sumTo n (λ k. 0) ≡ 0
+unfolding sumTo
+sum-to-zero zero = refl
+sum-to-zero (suc n) = omega (arith, sum-to-zero n)
+
+sum-to-plus : (n : ℕ) (f g : ℕ → ℕ) → sumTo n (λ k. f k + g k) ≡ sumTo n f + sumTo n g
+unfolding sumTo
+sum-to-plus zero f g = refl
+sum-to-plus (suc n) f g = omega (arith, sum-to-plus n f g)
+
+sum-to-alike : (n : ℕ) {f g : ℕ → ℕ} → ((k : ℕ) → f k ≡ g k) → sumTo n f ≡ sumTo n g
+unfolding sumTo
+sum-to-alike zero e = refl
+sum-to-alike (suc n) e = ap₂ _+_ (sum-to-alike n e) (e (suc n))
+
+-- a number at one place beyond those summed, and at one among them
+sum-beyond : (n c x : ℕ) → n < c → sumTo n (λ k. pick (eqb c k) x 0) ≡ 0
+unfolding sumTo
+sum-beyond zero c x h = refl
+sum-beyond (suc n) c x h = rw (ne-eqb c (suc n) (λ e. omega (arith, e))) (omega (arith, sum-beyond n c x (omega arith)))
+
+sum-one : (n c x : ℕ) → 1 ≤ c → c ≤ n → sumTo n (λ k. pick (eqb c k) x 0) ≡ x
+unfolding sumTo
+sum-one zero c x h m = absurd (omega arith)
+sum-one (suc n) c x h m = go (eqb c (suc n)) refl (λ g. sum-one n c x h g)
+  where
+    go : (t : Bool) → eqb c (suc n) ≡ t → (c ≤ n → sumTo n (λ k. pick (eqb c k) x 0) ≡ x) → sumTo n (λ k. pick (eqb c k) x 0) + pick t x 0 ≡ x
+    go true e r = omega (arith, sum-beyond n c x (omega (arith, eqb-true c (suc n) e)))
+    go false e r = let d : c ≡ suc n → ⊥ = eqb-false c (suc n) e in omega (arith, r (omega arith))
+
+-- a loan is of one column of its band, and of one band
+in-band : (test : Bool) (k x : ℕ) → Between 1 5 k → sumTo 5 (λ ltv. pick (test && eqb k ltv) x 0) ≡ pick test x 0
+in-band true k x h = sum-one 5 k x (h .least) (h .most)
+in-band false k x h = sum-to-zero 5
+
+over-loan : (l : Loan) (x : ℕ) → overCells (λ band ltv. pick (eqb (loanBand l) band && eqb (loanLtv l) ltv) x 0) ≡ x
+over-loan l x =
+    let b = band-between (l .score) in
+    sum-to-alike 12 (λ band. in-band (eqb (loanBand l) band) (loanLtv l) x (ltv-between (l .value) (l .balance)))
+    ∙ sum-one 12 (loanBand l) x (b .least) (b .most)
+
+over-line : (f : Loan → ℕ) (c : Content) → overCells (λ band ltv. inCell band ltv f c) ≡ ofLoan f 0 c
+over-line f c = go (held c)
+  where
+    go : {c : Content} → Held c → overCells (λ band ltv. inCell band ltv f c) ≡ ofLoan f 0 c
+    go (a-loan l) = over-loan l (f l)
+    go (no-loan n) =
+        sum-to-alike 12 (λ band. sum-to-alike 5 (λ ltv. n ℕ (λ l. pick (eqb (loanBand l) band && eqb (loanLtv l) ltv) (f l) 0) 0) ∙ sum-to-zero 5)
+        ∙ sum-to-zero 12 ∙ sym (n ℕ f 0)
+
+over-sum : (f g : ℕ → ℕ → ℕ) → overCells (λ band ltv. f band ltv + g band ltv) ≡ overCells f + overCells g
+over-sum f g =
+    sum-to-alike 12 (λ band. sum-to-plus 5 (f band) (g band))
+    ∙ sum-to-plus 12 (λ band. sumTo 5 (f band)) (λ band. sumTo 5 (g band))
+
+-- Something of the loans summed in each cell, and over all cells, is its sum over all loans.
+all-cells : (f : Loan → ℕ) (kept : List (List ℕ)) → overCells (λ band ltv. sumBy (inCell band ltv f) kept) ≡ sumBy (ofLoan f 0) kept
+unfolding sumBy
+all-cells f [] = sum-to-alike 12 (λ band. sum-to-zero 5) ∙ sum-to-zero 12
+all-cells f (s ∷ kept) =
+    over-sum (λ band ltv. inCell band ltv f (lineContent (lineOf s))) (λ band ltv. sumBy (inCell band ltv f) kept)
+    ∙ ap₂ _+_ (over-line f (lineContent (lineOf s))) (all-cells f kept)
+
+-- what a line adds to the book's loans and total
+record AddsLoan (t : Terms) (c : Content) : Type 0 where
+  loans : ofLoan (λ l. 1) 0 c ≡ share t c .counts .loans
+  plus : ofLoan (λ l. loanNumbers t l .total .plus) 0 c ≡ share t c .total .plus
+  minus : ofLoan (λ l. loanNumbers t l .total .minus) 0 c ≡ share t c .total .minus
+
+adds-loan : (t : Terms) (c : Content) → AddsLoan t c
+unfolding share loanShare kindCounts
+adds-loan t c = go (held c) (shape t c)
+  where
+    go : {c : Content} → Held c → Shape t c → AddsLoan t c
+    go (a-loan l) s = record { loans = refl; plus = refl; minus = refl }
+    go (no-loan n) (of-loan l) = absurd (omega (arith, n ℕ (λ x. 1) 0))
+    go (no-loan n) (of-other k a) = record {
+      loans = n ℕ (λ l. 1) 0 ∙ rw (a .sums) refl;
+      plus = n ℕ (λ l. loanNumbers t l .total .plus) 0 ∙ rw (a .sums) refl;
+      minus = n ℕ (λ l. loanNumbers t l .total .minus) 0 ∙ rw (a .sums) refl;
+    }
+    go (no-loan n) (of-none k a e) = record {
+      loans = n ℕ (λ l. 1) 0 ∙ rw a refl;
+      plus = n ℕ (λ l. loanNumbers t l .total .plus) 0 ∙ rw a refl;
+      minus = n ℕ (λ l. loanNumbers t l .total .minus) 0 ∙ rw a refl;
+    }
+
+-- the book's sums are those of its loans
+record LoanSums (t : Terms) (kept : List (List ℕ)) : Type 0 where
+  loans : sumBy (ofLoan (λ l. 1) 0) kept ≡ sumsOf t kept .counts .loans
+  plus : sumBy (ofLoan (λ l. loanNumbers t l .total .plus) 0) kept ≡ sumsOf t kept .total .plus
+  minus : sumBy (ofLoan (λ l. loanNumbers t l .total .minus) 0) kept ≡ sumsOf t kept .total .minus
+
+loan-sums : (t : Terms) (kept : List (List ℕ)) → LoanSums t kept
+unfolding sumBy sumsOf sumOf
+loan-sums t [] = record { loans = refl; plus = refl; minus = refl }
+loan-sums t (s ∷ kept) =
+    let a = adds-loan t (lineContent (lineOf s)) in
+    let r = loan-sums t kept in
+    record { loans = ap₂ _+_ (a .loans) (r .loans); plus = ap₂ _+_ (a .plus) (r .plus); minus = ap₂ _+_ (a .minus) (r .minus) }
+
+pub cell-sums : (t : Terms) (kept : List (List ℕ)) → CellSums t kept
+unfolding cellFor figuresFor
+cell-sums t kept =
+    let s = loan-sums t kept in
+    record {
+      counts = all-cells (λ l. 1) kept ∙ s .loans;
+      charges =
+          omega (
+            arith,
+            all-cells (λ l. loanNumbers t l .total .plus) kept,
+            all-cells (λ l. loanNumbers t l .total .minus) kept,
+            s .plus,
+            s .minus,
+          );
+    }
+
+-- Closing
+
+pub cells-written : (t : Terms) (a : Accepted) → WritesCells t a (stateOf t a)
+cells-written t a = rw (← cells-text t (a .kept)) (writes-of cellsSize t a (cellsTextOf (cellsOf t (a .kept))))
+
+-- Order
+
+pub cells-permuted : (t : Terms) {kept others : List (List ℕ)} → List·Permᴰ kept others → cellsFor t kept ≡ cellsFor t others
+unfolding cellsFor cellFor
+cells-permuted t {kept} {others} p = cells-alike (λ band ltv a b c d i. record {
+  count = sum-permuted (inCell band ltv (λ l. 1)) p i;
+  balance = sum-permuted (inCell band ltv (λ l. l .balance)) p i;
+  charge = record {
+    plus = sum-permuted (inCell band ltv (λ l. loanNumbers t l .total .plus)) p i;
+    minus = sum-permuted (inCell band ltv (λ l. loanNumbers t l .total .minus)) p i;
+  };
+})
+
+pub same-tables : (t : Terms) {a b : Accepted} → List·Permᴰ (a .kept) (b .kept) → SameTables (stateOf t a) (stateOf t b)
+same-tables t {a} {b} p =
+    same-texts cellsSize (bookOf t (a .kept)) (bookOf t (b .kept)) (cells-text t (a .kept) ∙ cells-permuted t p ∙ sym (cells-text t (b .kept)))
+
+pub loan-table : LoanTable
+loan-table = record {
+  bands = bands;
+  columns = columns;
+  cells = λ header lines. rw (after-is header lines) (cell-is (termsOf (opened header)) (linesTaken (allFed (opened header) lines)));
+  closes = λ header lines. rw (after-is header lines) (cells-written (termsOf (opened header)) (acceptedOf (allFed (opened header) lines)));
+  sums = λ header lines. cell-sums (termsOf (opened header)) (linesTaken (allFed (opened header) lines));
+  alike = λ header lines others p. rw (after-is header lines, after-is header others) (same-tables (termsOf (opened header)) p);
+}

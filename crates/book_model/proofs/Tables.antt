@@ -1,0 +1,141 @@
+-- The table that feeding keeps is that of the lines taken: each place is a sum over the lines. Assumes nothing.
+use mathlib.Core.Path.{_≡_, refl, sym, _∙_, ap}
+use mathlib.Core.Bool.{Bool, true, false}
+use mathlib.Core.List.{List, [], _∷_, _++_}
+use Prim.Native.Nat.{ℕ, zero, suc, _+_, _≤_, _<_}
+use native.Mathlib.Nat.{le-of-suc-le-suc, not-suc-le-zero, add-suc, suc-add}
+use native.Mathlib.Omega.{arith}
+use lib.Dec.{eqb}
+use lib.ListN.{length, getD, length-set, replicate}
+use lib.Seq.{ext-getD, getD-set-same, getD-set-other}
+use borrow.Author.Tests.{eqb-true, eqb-false}
+use Rattle.exact.specs.Choice.{pick}
+use Rattle.fixed_point.specs.declared.Signed.{Signed}
+use Rattle.line_forms.specs.declared.Content.{Content}
+use Rattle.line_forms.specs.Claims.{lineContent}
+use Rattle.line_forms.specs.Readings.{lineOf}
+use Rattle.cell_report.specs.CellReport.{placeOf}
+use Rattle.book_model.specs.Cells.{loanBand, loanLtv, ofLoan, noCells, addAt, withLoan, cellsWith}
+use Rattle.book_model.specs.LoanTable.{sumBy}
+use Rattle.book_model.specs.Share.{loanNumbers}
+use Rattle.book_model.specs.Terms.{Terms}
+use Rattle.book_model.proofs.Cells.{Between, band-between, ltv-between, Held, a-loan, no-loan, held}
+
+-- n values of a function, from k on
+unfoldable pub tabulate : (n k : ℕ) → (ℕ → ℕ) → List ℕ
+tabulate zero k f = []
+tabulate (suc n) k f = f k ∷ tabulate n (suc k) f
+
+tabulate-length : (n k : ℕ) (f : ℕ → ℕ) → length (tabulate n k f) ≡ n
+unfolding tabulate
+tabulate-length zero k f = refl
+tabulate-length (suc n) k f = ap suc (tabulate-length n (suc k) f)
+
+tabulate-at : (n k : ℕ) (f : ℕ → ℕ) (i : ℕ) → i < n → getD (tabulate n k f) i 0 ≡ f (k + i)
+unfolding tabulate
+tabulate-at zero k f i h = absurd (not-suc-le-zero h)
+tabulate-at (suc n) k f zero h = ap f (omega arith)
+tabulate-at (suc n) k f (suc i) h = tabulate-at n (suc k) f i (le-of-suc-le-suc h) ∙ ap f (suc-add k i ∙ sym (add-suc k i))
+
+-- what a loan of the cell whose places begin at `place` adds at the place i
+unfoldable pub placed : (i place balance : ℕ) → Signed → ℕ
+placed i place balance charge =
+    pick (eqb i place) 1 0 + pick (eqb i (place + 1)) balance 0 + pick (eqb i (place + 2)) (charge .plus) 0 + pick (eqb i (place + 3)) (charge .minus) 0
+
+unfoldable pub placedBy : Terms → ℕ → Content → ℕ
+placedBy t i c = ofLoan (λ l. placed i (placeOf (loanBand l) (loanLtv l)) (l .balance) (loanNumbers t l .total)) 0 c
+
+-- the table of the lines taken
+unfoldable pub cellsOf : Terms → List (List ℕ) → List ℕ
+cellsOf t kept = tabulate 240 0 (λ i. sumBy (placedBy t i) kept)
+
+cells-length : (t : Terms) (kept : List (List ℕ)) → length (cellsOf t kept) ≡ 240
+unfolding cellsOf
+cells-length t kept = tabulate-length 240 0 (λ i. sumBy (placedBy t i) kept)
+
+pub cells-at : (t : Terms) (kept : List (List ℕ)) (i : ℕ) → i < 240 → getD (cellsOf t kept) i 0 ≡ sumBy (placedBy t i) kept
+unfolding cellsOf
+cells-at t kept i h = tabulate-at 240 0 (λ i. sumBy (placedBy t i) kept) i h ∙ ap (λ (j : ℕ). sumBy (placedBy t j) kept) (omega arith)
+
+zero-cells : (n k : ℕ) → replicate n 0 ≡ tabulate n k (λ i. 0)
+unfolding tabulate
+zero-cells zero k = refl
+zero-cells (suc n) k = ap (λ (l : List ℕ). 0 ∷ l) (zero-cells n (suc k))
+
+pub no-cells : (t : Terms) → noCells ≡ cellsOf t []
+unfolding noCells cellsOf sumBy
+no-cells t = zero-cells 240 0
+
+-- One line more
+
+-- a place that is added to
+add-at : (l : List ℕ) (at x i : ℕ) → at < length l → getD (addAt l at x) i 0 ≡ getD l i 0 + pick (eqb i at) x 0
+add-at l at x i h = go (eqb i at) refl
+  where
+    go : (t : Bool) → eqb i at ≡ t → getD (addAt l at x) i 0 ≡ getD l i 0 + pick t x 0
+    go true e = let f : i ≡ at = eqb-true i at e in rw f (getD-set-same l at (getD l at 0 + x) 0 h)
+    go false e = rw (getD-set-other l at i (getD l at 0 + x) 0 (eqb-false i at e)) (omega arith)
+
+with-loan-length : (l : List ℕ) (place balance : ℕ) (charge : Signed) → length (withLoan l place balance charge) ≡ length l
+unfolding withLoan
+with-loan-length l place balance charge = simp length-set
+
+with-loan-at : (l : List ℕ) (place balance : ℕ) (charge : Signed) (i : ℕ) → place + 4 ≤ length l →
+    getD (withLoan l place balance charge) i 0 ≡ getD l i 0 + placed i place balance charge
+unfolding withLoan placed
+with-loan-at l place balance charge i h =
+    let l1 = addAt l place 1 in
+    let l2 = addAt l1 (place + 1) balance in
+    let l3 = addAt l2 (place + 2) (charge .plus) in
+    let n1 : length l1 ≡ length l = length-set l place _ in
+    let n2 : length l2 ≡ length l1 = length-set l1 (place + 1) _ in
+    let n3 : length l3 ≡ length l2 = length-set l2 (place + 2) _ in
+    rw (
+      add-at l3 (place + 3) (charge .minus) i (omega arith),
+      add-at l2 (place + 2) (charge .plus) i (omega arith),
+      add-at l1 (place + 1) balance i (omega arith),
+      add-at l place 1 i (omega arith),
+    )
+    (omega arith)
+
+sum-more : (f : Content → ℕ) (kept : List (List ℕ)) (s : List ℕ) → sumBy f (kept ++ (s ∷ [])) ≡ sumBy f kept + f (lineContent (lineOf s))
+unfolding sumBy
+sum-more f [] s = omega arith
+sum-more f (r ∷ kept) s = omega (arith, sum-more f kept s)
+
+-- the four places of a cell are among the 240
+pub place-room : (band ltv : ℕ) → Between 1 12 band → Between 1 5 ltv → placeOf band ltv + 4 ≤ 240
+place-room band ltv b k = omega (arith, b .least, b .most, k .least, k .most)
+
+module _ (t : Terms) (kept : List (List ℕ)) (s : List ℕ) where
+  with-line : (c : Content) →
+      (length (cellsWith t c (cellsOf t kept)) ≡ 240)
+      × ((i : ℕ) → getD (cellsWith t c (cellsOf t kept)) i 0 ≡ getD (cellsOf t kept) i 0 + placedBy t i c)
+  unfolding cellsWith placedBy
+  with-line c = go (held c)
+    where
+      go : {c : Content} → Held c →
+          (length (cellsWith t c (cellsOf t kept)) ≡ 240)
+          × ((i : ℕ) → getD (cellsWith t c (cellsOf t kept)) i 0 ≡ getD (cellsOf t kept) i 0 + placedBy t i c)
+      go (a-loan l) = (
+        with-loan-length (cellsOf t kept) (placeOf (loanBand l) (loanLtv l)) (l .balance) (loanNumbers t l .total) ∙ cells-length t kept,
+        λ i. with-loan-at (cellsOf t kept) (placeOf (loanBand l) (loanLtv l)) (l .balance) (loanNumbers t l .total) i
+            (omega (arith, cells-length t kept, place-room (loanBand l) (loanLtv l) (band-between (l .score)) (ltv-between (l .value) (l .balance)))),
+      )
+      go (no-loan e) = (
+        rw (e (List ℕ) (λ l. withLoan (cellsOf t kept) (placeOf (loanBand l) (loanLtv l)) (l .balance) (loanNumbers t l .total)) (cellsOf t kept))
+            (cells-length t kept),
+        λ i. rw (
+          e (List ℕ) (λ l. withLoan (cellsOf t kept) (placeOf (loanBand l) (loanLtv l)) (l .balance) (loanNumbers t l .total)) (cellsOf t kept),
+          e ℕ (λ l. placed i (placeOf (loanBand l) (loanLtv l)) (l .balance) (loanNumbers t l .total)) 0,
+        )
+            (omega arith),
+      )
+
+  pub cells-more : cellsWith t (lineContent (lineOf s)) (cellsOf t kept) ≡ cellsOf t (kept ++ (s ∷ []))
+  cells-more =
+      let c = lineContent (lineOf s) in
+      ext-getD 0 (cellsWith t c (cellsOf t kept)) (cellsOf t (kept ++ (s ∷ []))) (with-line c .0 ∙ sym (cells-length t (kept ++ (s ∷ []))))
+      (λ i h.
+      let k : i < 240 = omega (arith, with-line c .0) in
+      with-line c .1 i ∙ rw (cells-at t kept i k, cells-at t (kept ++ (s ∷ [])) i k) (sym (sum-more (placedBy t i) kept s)))

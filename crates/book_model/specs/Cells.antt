@@ -1,0 +1,63 @@
+-- 02, L1: loans by score band and loan-to-value. Which cell a loan is of, and the table of all cells that a book keeps beside its sums.
+use Prim.Native.Nat.{ℕ, _+_, _*_, _≤_}
+use mathlib.Core.List.{List, [], _∷_}
+use lib.Dec.{ltb}
+use lib.ListN.{getD, set, replicate}
+use Rattle.fixed_point.specs.declared.Signed.{Signed}
+use Rattle.loan_charge.specs.CreditFactor.{count, band}
+use Rattle.loan_charge.specs.declared.Score.{Score}
+use Rattle.loan_charge.specs.declared.Score.the-variants.{Scored, Unscored}
+use Rattle.line_forms.specs.declared.Loan.{Loan}
+use Rattle.line_forms.specs.declared.Content.{Content}
+use Rattle.line_forms.specs.declared.Content.the-variants.{Header as header, Loan as loan, Policy as policy, Derivative as derivative, Asset as asset}
+use Rattle.line_forms.specs.declared.Content.the-variants.{Amount as amount, NoForm}
+use Rattle.cell_report.specs.CellReport.{placeOf}
+use Rattle.book_model.specs.Share.{loanNumbers}
+use Rattle.book_model.specs.Terms.{Terms}
+
+-- BAND: the eleven bands of the credit factors, 1 to 11 upward, and 12 for no score
+unfoldable pub bandOf : Score → ℕ
+bandOf (Scored number age) = band number + 1
+bandOf Unscored = 12
+
+-- LTV: balance over property value up to 65%, 80%, 90%, 95%, and above. A limit itself belongs to the lower column. Value over balance is p / q.
+unfoldable pub ltvOf : (p q : ℕ) → ℕ
+ltvOf p q = count (λ limit. ltb (limit * p) (100 * q)) (65 ∷ 80 ∷ 90 ∷ 95 ∷ []) + 1
+
+abbrev pub loanBand : Loan → ℕ
+loanBand l = bandOf (l .score)
+
+abbrev pub loanLtv : Loan → ℕ
+loanLtv l = ltvOf (l .value) (l .balance)
+
+-- something of the loan that a line holds, and x where it holds none
+abbrev pub ofLoan : {A : Type 0} → (Loan → A) → A → Content → A
+ofLoan f x (header h) = x
+ofLoan f x (loan l) = f l
+ofLoan f x (policy p) = x
+ofLoan f x (derivative d) = x
+ofLoan f x (asset a) = x
+ofLoan f x (amount a) = x
+ofLoan f x NoForm = x
+
+-- no loan in any cell
+unfoldable pub noCells : List ℕ
+noCells = replicate 240 0
+
+-- x more at a place
+abbrev pub addAt : List ℕ → (at x : ℕ) → List ℕ
+addAt cells at x = set cells at (getD cells at 0 + x)
+
+-- one loan more in the cell whose four places begin there
+unfoldable pub withLoan : List ℕ → (place balance : ℕ) → (charge : Signed) → List ℕ
+withLoan cells place balance charge =
+    addAt (addAt (addAt (addAt cells place 1) (place + 1) balance) (place + 2) (charge .plus)) (place + 3) (charge .minus)
+
+-- the table with what the data of a line adds: only a loan does
+unfoldable pub cellsWith : Terms → Content → List ℕ → List ℕ
+cellsWith t c cells =
+    ofLoan (λ l. withLoan cells (placeOf (loanBand l) (loanLtv l)) (l .balance) (loanNumbers t l .total)) cells c
+
+-- Every place is bounded by a multiple of the additions: so many that no two need be told apart.
+pub record CellsBounded (cells : List ℕ) (additions : ℕ) : Type 0 where
+  pub each : (i : ℕ) → getD cells i 0 ≤ 300000000 * additions

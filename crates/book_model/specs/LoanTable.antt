@@ -1,0 +1,106 @@
+-- 02, L1: the table of the loans taken by score band and loan-to-value, from the lines alone, and what is claimed of it.
+-- Over the definitions that the contracts equate with the calls (Calls.antt); proved in proofs/LoanTable.antt, and through the calls
+-- themselves in the crate histories.
+use Prim.Native.Nat.{ℕ, zero, suc, _+_, _*_, _≤_, _<_}
+use mathlib.Core.Path.{_≡_}
+use mathlib.Core.Bool.{_&&_}
+use mathlib.Core.List.{List, [], _∷_, List·Permᴰ}
+use mathlib.Core.Logic.{_↔_}
+use lib.Dec.{eqb}
+use Rattle.exact.specs.Choice.{pick}
+use Rattle.loan_charge.specs.declared.Score.the-variants.{Scored, Unscored}
+use Rattle.line_forms.specs.declared.Loan.{Loan}
+use Rattle.line_forms.specs.declared.Content.{Content}
+use Rattle.line_forms.specs.Claims.{lineContent}
+use Rattle.line_forms.specs.Readings.{lineOf}
+use Rattle.cell_report.specs.declared.Cell.{Cell}
+use Rattle.cell_report.specs.CellReport.{cellsText, cellAt}
+use Rattle.book_model.specs.Accepted.{Accepted}
+use Rattle.book_model.specs.Calls.{State, opening, cellsSize, closingCells, closedCells}
+use Rattle.book_model.specs.Cells.{bandOf, ltvOf, loanBand, loanLtv, ofLoan}
+use Rattle.book_model.specs.Demand3.{figuresFor, afterLines, Writes, SameTexts}
+use Rattle.book_model.specs.History.{opened, allFed, termsOf, acceptedOf, linesTaken}
+use Rattle.book_model.specs.Share.{loanNumbers}
+use Rattle.book_model.specs.Terms.{Terms}
+
+-- The bands of scores in inequalities: by the number alone, whatever its age.
+pub record Bands : Type 0 where
+  pub lowest : (number age : ℕ) → (bandOf (Scored number age) ≡ 1) ↔ (number < 600)
+  pub between : (k number age : ℕ) → k < 9 → (bandOf (Scored number age) ≡ k + 2) ↔ ((600 + 20 * k ≤ number) × (number < 620 + 20 * k))
+  pub highest : (number age : ℕ) → (bandOf (Scored number age) ≡ 11) ↔ (780 ≤ number)
+  pub none : bandOf Unscored ≡ 12
+
+-- The columns in inequalities, for value over balance p / q: a limit itself belongs to the lower column, and a balance above the value to the last.
+pub record Columns : Type 0 where
+  pub to-65 : (p q : ℕ) → (ltvOf p q ≡ 1) ↔ (100 * q ≤ 65 * p)
+  pub to-80 : (p q : ℕ) → (ltvOf p q ≡ 2) ↔ ((65 * p < 100 * q) × (100 * q ≤ 80 * p))
+  pub to-90 : (p q : ℕ) → (ltvOf p q ≡ 3) ↔ ((80 * p < 100 * q) × (100 * q ≤ 90 * p))
+  pub to-95 : (p q : ℕ) → (ltvOf p q ≡ 4) ↔ ((90 * p < 100 * q) × (100 * q ≤ 95 * p))
+  pub above : (p q : ℕ) → (ltvOf p q ≡ 5) ↔ (95 * p < 100 * q)
+
+-- a number of each line, summed over the lines
+unfoldable pub sumBy : (Content → ℕ) → List (List ℕ) → ℕ
+sumBy f [] = 0
+sumBy f (s ∷ kept) = f (lineContent (lineOf s)) + sumBy f kept
+
+-- something of the loans of one band and column
+abbrev pub inCell : (band ltv : ℕ) → (Loan → ℕ) → Content → ℕ
+inCell band ltv f c = ofLoan (λ l. pick (eqb (loanBand l) band && eqb (loanLtv l) ltv) (f l) 0) 0 c
+
+-- Each cell counts and sums exactly the loans taken of its band and column. A loan's charge is its base plus supplement.
+unfoldable pub cellFor : Terms → List (List ℕ) → (band ltv : ℕ) → Cell
+cellFor t kept band ltv = record {
+  count = sumBy (inCell band ltv (λ l. 1)) kept;
+  balance = sumBy (inCell band ltv (λ l. l .balance)) kept;
+  charge = record {
+    plus = sumBy (inCell band ltv (λ l. loanNumbers t l .total .plus)) kept;
+    minus = sumBy (inCell band ltv (λ l. loanNumbers t l .total .minus)) kept;
+  };
+}
+
+-- the 60 lines of the lines taken
+unfoldable pub cellsFor : Terms → List (List ℕ) → List ℕ
+cellsFor t kept = cellsText (cellFor t kept)
+
+-- f 1 + .. + f n
+unfoldable pub sumTo : ℕ → (ℕ → ℕ) → ℕ
+sumTo zero f = 0
+sumTo (suc n) f = sumTo n f + f (suc n)
+
+-- a sum over all cells: bands 1 to 12, columns 1 to 5
+abbrev pub overCells : (ℕ → ℕ → ℕ) → ℕ
+overCells f = sumTo 12 (λ band. sumTo 5 (λ ltv. f band ltv))
+
+-- Over all cells the counts and charges sum to the report's loans and total. A charge and the total are their parts above 0 less those below.
+pub record CellSums (t : Terms) (kept : List (List ℕ)) : Type 0 where
+  pub counts : overCells (λ band ltv. cellFor t kept band ltv .count) ≡ figuresFor t kept .loans
+  pub charges : overCells (λ band ltv. cellFor t kept band ltv .charge .plus) + figuresFor t kept .total .minus ≡
+      overCells (λ band ltv. cellFor t kept band ltv .charge .minus) + figuresFor t kept .total .plus
+
+-- The second closing of a state under terms t with the lines `a` taken writes their 60 lines.
+abbrev pub WritesCells : Terms → Accepted → State → Type 0
+WritesCells t a s =
+    Writes cellsSize t a (cellsFor t (a .kept)) (closingCells (s .book) (s .cells)) (closedCells (s .book) (s .cells))
+
+abbrev pub SameTables : State → State → Type 0
+SameTables s u =
+    SameTexts (closingCells (s .book) (s .cells)) (closedCells (s .book) (s .cells)) (closingCells (u .book) (u .cells))
+    (closedCells (u .book) (u .cells))
+
+-- The claim, for every header line and every list of lines fed after it. (A header that is refused gives the value of an all-zero header,
+-- of which it holds too.)
+pub record LoanTable : Type 0 where
+  pub bands : Bands
+  pub columns : Columns
+  -- Each cell of the table that feeding keeps counts and sums exactly the loans taken of its band and column,
+  pub cells : (header : List ℕ) (lines : List (List ℕ)) (band ltv : ℕ) → 1 ≤ band → band ≤ 12 → 1 ≤ ltv → ltv ≤ 5 →
+      cellAt (afterLines (opening header .state) lines .cells) band ltv ≡
+      cellFor (termsOf (opened header)) (linesTaken (allFed (opened header) lines)) band ltv
+  -- and the second closing writes the 60 cells.
+  pub closes : (header : List ℕ) (lines : List (List ℕ)) →
+      WritesCells (termsOf (opened header)) (acceptedOf (allFed (opened header) lines)) (afterLines (opening header .state) lines)
+  pub sums : (header : List ℕ) (lines : List (List ℕ)) → CellSums (termsOf (opened header)) (linesTaken (allFed (opened header) lines))
+  -- the same lines taken, each as often, in whatever order: the same 60 lines, byte for byte
+  pub alike : (header : List ℕ) (lines others : List (List ℕ)) →
+      List·Permᴰ (linesTaken (allFed (opened header) lines)) (linesTaken (allFed (opened header) others)) →
+      SameTables (afterLines (opening header .state) lines) (afterLines (opening header .state) others)

@@ -1,0 +1,85 @@
+-- `put_closing` meets its contract.
+use denote.Ref.{now}
+use native.Mathlib.Omega.{arith}
+use borrow.Author.Needs.{needs}
+use Rattle.loan_charge.specs.CreditFactor.{builtInRates}
+use Rattle.book_model.specs.Calls.{State, stateAt}
+use Rattle.book_model.proofs.Demand1.{demand1}
+use Rattle.driver.proofs.Answers.{refusal-room, closing-refused, closing-enough, report-room, report-alone, report-and-table}
+use Rattle.driver.proofs.put_closing.Statement.{statement}
+use Rattle.driver.proofs.put_closing.Tie as tie
+
+-- the state that the call is handed
+stateFor : tie.Start → State
+stateFor c = stateAt (c .args .b) builtInRates (now (c .args .cells))
+
+put-refusal-requires : tie.Need-put-refusal-requires
+put-refusal-requires c κs = refusal-room 6 (c .before .before .before .before .before .before .before .before .args .number) _ (omega arith) (omega arith) (search needs)
+
+returns : tie.Need-returns
+unfolding stateFor
+returns c =
+    let a = c .before .before .before .before .before .before .before .before .before .before .before .args in
+    let d = c .before .before .before .before .before .before .before .before .close in
+    let k = closing-refused (a .asked) (stateFor (c .before .before .before .before .before .before .before .before .before .before .before)) (now (a .out)) (c .before .before .before .before .before .before .before .before .before .before .before .pre .1) (d .ensures .0) (d .ensures .1) (c .before .before .before .before .if1 .taken) in
+    rw (k .1 (a .number), ← k .0) (c .before .before .put-refusal .ensures)
+
+-- the report leaves room for the table
+sub-put-table : tie.Need-sub-put-table
+sub-put-table c = omega (arith, report-room (c .before .before .before .before .before .before .before .before .args .b) (c .before .before .before .before .before .before .before .before .pre .0 .book) (now (c .before .before .before .before .before .before .before .before .args .out)) (c .before .before .before .before .before .close .ensures .0) (c .before .if1 .left))
+
+part-put-table-start : tie.Need-part-put-table-start
+part-put-table-start c = omega (arith, report-room (c .before .before .before .before .before .before .before .before .args .b) (c .before .before .before .before .before .before .before .before .pre .0 .book) (now (c .before .before .before .before .before .before .before .before .args .out)) (c .before .before .before .before .before .close .ensures .0) (c .before .if1 .left))
+
+put-table-requires : tie.Need-put-table-requires
+unfolding stateFor
+put-table-requires c κs =
+    let d = c .before .before .before .before .before .before .close in
+    let a = c .before .before .before .before .before .before .before .before .before .args in (
+      closing-enough (a .asked) (stateFor (c .before .before .before .before .before .before .before .before .before)) (now (a .out)) (c .before .before .before .before .before .before .before .before .before .pre .1) (d .ensures .0) (d .ensures .1) (c .before .before .if1 .left),
+      omega (arith, report-room (a .b) (c .before .before .before .before .before .before .before .before .before .pre .0 .book) (now (a .out)) (d .ensures .0) (c .before .before .if1 .left)),
+    )
+
+add-result : tie.Need-add-result
+unfolding stateFor
+add-result c =
+    let a = c .before .before .before .before .before .before .before .before .before .before .before .before .args in
+    omega (
+      arith,
+      report-room (a .b) (c .before .before .before .before .before .before .before .before .before .before .before .before .pre .0 .book) (now (a .out)) (c .before .before .before .before .before .before .before .before .before .close .ensures .0) (c .before .before .before .before .before .if1 .left),
+      c .before .before .put-table .ensures .count,
+      demand1 .cells-fit (stateFor (c .before .before .before .before .before .before .before .before .before .before .before .before)) (c .before .before .before .before .before .before .before .before .before .before .before .before .pre .0),
+    )
+
+returns-2 : tie.Need-returns-2
+unfolding stateFor
+returns-2 c =
+    let d = c .before .before .before .before .before .before .before .before .before .close in
+    let a = c .before .before .before .before .before .before .before .before .before .before .before .before .args in
+    report-and-table (a .asked) (stateFor (c .before .before .before .before .before .before .before .before .before .before .before .before)) (now (a .out)) (c .before .before .before .before .before .before .before .before .before .before .before .before .pre .1) (d .ensures .0) (d .ensures .1) (c .before .before .before .before .before .if1 .left) (c .before .before .before .before .if2 .taken) (a .number)
+    (c .before .before .put-table .ensures)
+
+returns-3 : tie.Need-returns-3
+unfolding stateFor
+returns-3 c =
+    let d = c .before .before .before .before .before .close in
+    let a = c .before .before .before .before .before .before .before .before .args in
+    report-alone (a .asked) (stateFor (c .before .before .before .before .before .before .before .before)) (now (a .out)) (c .before .before .before .before .before .before .before .before .pre .1) (d .ensures .0) (d .ensures .1) (c .before .if1 .left) (c .if2 .left) (a .number)
+
+pub put-closing-spec : {M : Type 1} → statement M
+put-closing-spec =
+    tie.close
+    (tie.spec
+    (λ c κs. search needs)
+    put-refusal-requires
+    (λ c. search needs)
+    returns
+    sub-put-table
+    part-put-table-start
+    (λ c. search needs)
+    put-table-requires
+    add-result
+    (λ c. search needs)
+    returns-2
+    (λ c. search needs)
+    returns-3)
