@@ -82,14 +82,9 @@ def compare(loans, total, whole):
 # ---- what is written
 
 
-def number(n):
-    """Thousands apart, and a minus sign that is as wide as a plus."""
-    return f"{n:,}".replace("-", "−")
-
-
 def dollars(cents):
-    sign, size = ("−" if cents < 0 else ""), abs(cents)
-    return f"{sign}{number(size // 100)}.{size % 100:02}"
+    """Cents as dollars: thousands apart, and a minus sign that is no hyphen."""
+    return f"{'−' if cents < 0 else ''}{abs(cents) // 100:,}.{abs(cents) % 100:02}"
 
 
 def shade(cell, largest):
@@ -97,7 +92,7 @@ def shade(cell, largest):
     return -(-SHADES * cell.balance // largest) if cell.balance else 0
 
 
-FIGURES = (("loans", lambda cell: number(cell.count)), ("balance $", lambda cell: dollars(cell.balance)), ("charge $", lambda cell: dollars(cell.charge)))
+FIGURES = (("loans", lambda cell: f"{cell.count:,}"), ("balance $", lambda cell: dollars(cell.balance)), ("charge $", lambda cell: dollars(cell.charge)))
 
 
 def row_group(title, cells, largest, kind):
@@ -110,7 +105,7 @@ def row_group(title, cells, largest, kind):
         out.append(f'<th scope="row">{name}</th>')
         for column, cell in zip((*COLUMNS, "all"), (*cells, together(cells))):
             label = f' data-column="{column}"' if at == 0 else ""
-            tone = "sum" if column == "all" else f"s{shade(cell, largest)}" if kind == "band" else "sum"
+            tone = "sum" if column == "all" or kind == "sums" else f"s{shade(cell, largest)}"
             out.append(f'<td class="{tone}"{label}>{figure(cell) if cell.count else NO_LOAN}</td>')
         out.append("</tr>")
     out.append("</tbody>")
@@ -140,7 +135,7 @@ def legend(largest):
 
 
 def agreement(loans, total, whole):
-    rows = (("loans", number(loans), number(whole.count)), ("total: charge of all home loans, $", dollars(total), dollars(whole.charge)))
+    rows = (("loans", f"{loans:,}", f"{whole.count:,}"), ("total: charge of all home loans, $", dollars(total), dollars(whole.charge)))
     body = "\n".join(f'<tr><th scope="row">{name}</th><td>{told}</td><td>{found}</td><td>equal</td></tr>' for name, told, found in rows)
     return f"""<table class="agreement">
 <caption>The cells add up to the capital return</caption>
@@ -262,11 +257,15 @@ paid off. The darker a cell, the larger its balance; “{NO_LOAN}” is a cell w
 def main():
     name = sys.argv[1] if len(sys.argv) > 1 else ""
     try:
-        written = page(*read(sys.stdin.buffer.read()), name)
+        drawn = page(*read(sys.stdin.buffer.read()), name).encode("utf-8", "replace")
+        with open(1, "wb", closefd=False) as out:
+            out.write(drawn)
     except Refused as refused:
         print(f"cells_picture: {refused}", file=sys.stderr)
         sys.exit(refused.status)
-    sys.stdout.buffer.write(written.encode("utf-8", "replace"))
+    except OSError as failed:
+        print(f"cells_picture: the page is not, or not wholly, written: {failed.strerror}", file=sys.stderr)
+        sys.exit(2)
 
 
 if __name__ == "__main__":
