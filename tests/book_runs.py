@@ -303,8 +303,9 @@ def table_problem(found, report, table):
         return f"the cells have {sums[0]} loans and the charge {sums[1]} together"
     expected = cells.text(found, charges)
     if table != expected:
-        different = [f"{line!r}, expected {right!r}" for line, right in zip(table.split(b"\n"), expected.split(b"\n")) if line != right]
-        return f"the table has {different[:1]}"
+        pairs = itertools.zip_longest(table.split(b"\n"), expected.split(b"\n"))
+        line, right = next(pair for pair in pairs if pair[0] != pair[1])
+        return f"the table has {line!r}, expected {right!r}"
     for where, charge, (least, greatest) in zip(cells.PLACES, charges, cells.charge_bounds(found, LOAN_DISTANCE)):
         if not least <= charge <= greatest:
             return f"charge {charge} of cell {where} not in {least} to {greatest}"

@@ -170,6 +170,7 @@ caption { text-align: left; font-weight: 600; padding: 0 0 .5rem; }
 .grid tbody th { text-align: left; vertical-align: top; }
 .grid th[scope=row] { font-weight: 400; color: #4b535c; }
 .grid tr:first-child td { font-weight: 600; }
+.grid tr:first-child td.s0 { font-weight: 400; }
 .grid td.sum { border-left: 1px solid #8a939c; }
 .grid .sums { border-top: 2px solid #4b535c; border-bottom: 2px solid #4b535c; }
 .grid .sums td:not(:last-child) { border-left: 0; }
