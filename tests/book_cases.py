@@ -1,13 +1,13 @@
 #!/usr/bin/env python3
 """Lists of calls for `try_book`: opening, feeding and closing, also after refusals and into buffers of several sizes.
 
-A call is one line: `o` and a header line, `f` and a line, `c` and the size of the buffer that is lent. Its answer is `o`, `f`
-or `c` and the refusal, 0 for none; a closing tells the length too, and then all 640 bytes of the buffer of which the lent
-one is the start, `.` where nothing was written.
+A call is one line: `o` and a header line, `f` and a line, `c` or `t` and the size of the buffer that is lent for the report or for
+the table. Its answer is its letter and the refusal, 0 for none; a closing tells the length too, and then all bytes of the buffer
+of which the lent one is the start, 640 or 8,320, `.` where nothing was written.
 
 The stored lists hold only loans whose two numbers the reference leaves no choice, so that it knows every byte of the answers.
-Further lists (--run) hold any loans: the same lines in two orders, with refused lines between. Their reports are compared
-with the reference, and byte for byte with each other.
+Further lists (--run) hold any loans: the same lines in two orders, with refused lines between. Their reports and tables are
+compared with the reference, and byte for byte with each other.
 """
 import copy
 import random
@@ -16,14 +16,12 @@ import re
 import book_runs
 import line_cases
 import stored
-from reference import book
+from reference import book, cells
 
-BUFFER = 640
-SIZES = (0, 511, 512, 513, 640)
-
-
-def _closing(refusal, report):
-    return b"c %d %d\n" % (refusal, len(report)) + report.ljust(BUFFER, b".") + b"\n"
+# Of each closing the bytes that it asks for, the buffer of which a part is lent, and the sizes that are tried.
+LEAST = {b"c": book.REPORT_BUFFER, b"t": cells.BUFFER}
+BUFFERS = {b"c": 640, b"t": 8_320}
+SIZES = {kind: (0, least - 1, least, least + 1, BUFFERS[kind]) for kind, least in LEAST.items()}
 
 
 def _certain_report(found):
@@ -33,13 +31,30 @@ def _certain_report(found):
     return found.report(total, supplement)
 
 
+def _certain_table(found):
+    """The table of such a book."""
+    least, greatest = zip(*cells.charge_bounds(found, book_runs.LOAN_DISTANCE))
+    assert least == greatest
+    return cells.text(found, least)
+
+
+CERTAIN = {b"c": _certain_report, b"t": _certain_table}
+
+
 def no_book():
     """What stands for a book before any opening, and after a refused one."""
     return book.Book(0, 0, b"fresh", 0)
 
 
-def answers(calls, report=_certain_report):
-    """What each call answers; `report` gives the report of a book that is closed."""
+def _closing(found, kind, size, text):
+    """What a closing answers: the book as it is found, the call's letter and size, what gives the text."""
+    refusal = found.closing_refusal(min(size, BUFFERS[kind]), LEAST[kind])
+    written = b"" if refusal else text(found)
+    return b"%s %d %d\n%s\n" % (kind, refusal, len(written), written.ljust(BUFFERS[kind], b"."))
+
+
+def answers(calls, texts=CERTAIN):
+    """What each call answers; `texts` gives the report and the table of a book that is closed."""
     open_book = no_book()
     for call in calls:
         kind, rest = call[:1], call[1:]
@@ -51,19 +66,32 @@ def answers(calls, report=_certain_report):
         elif kind == b"f":
             yield b"f %d\n" % open_book.feed(rest)
         else:
-            refusal = open_book.closing_refusal(min(int(rest), BUFFER))
-            yield _closing(refusal, b"" if refusal else report(open_book))
+            yield _closing(open_book, kind, int(rest), texts[kind])
+
+
+def _is_certain(line, header):
+    """Whether a loan's two numbers are certain under a header."""
+    opened = book.open_book(header)
+    opened.feed(line)
+    bounds = opened.sum_bounds(book_runs.LOAN_DISTANCE)
+    return bounds[::2] == bounds[1::2]
 
 
 def _certain_loan(source, scored, header):
     """A loan whose two numbers are certain under a header."""
     while True:
         line = book_runs.loan_line(source, scored)
-        opened = book.open_book(header)
-        opened.feed(line)
-        bounds = opened.sum_bounds(book_runs.LOAN_DISTANCE)
-        if bounds[::2] == bounds[1::2]:
+        if _is_certain(line, header):
             return line
+
+
+def _limit_loans(header):
+    """Loans at each limit of the table's columns and one cent either side, whose numbers are certain; some are charged less than 0."""
+    amounts = [pair for row in book_runs.limit_amounts() for pair in row[:3]]
+    for i, (balance, value) in enumerate(amounts):
+        score = b"%d 7" % (300 + 61 * i % 601)
+        lines = (book_runs.loan(balance, value, score, months) for months in range(1 + i % 9, 481))
+        yield next(line for line in lines if _is_certain(line, header))
 
 
 def _refused_lines(source, open_book):
@@ -93,8 +121,8 @@ def _feedings(source, header, lines):
     return calls + [b"f" + after for after in _refused_lines(source, open_book)]
 
 
-def _closings():
-    return [b"c%d" % size for size in SIZES]
+def _closings(kind=b"c"):
+    return [b"%s%d" % (kind, size) for size in SIZES[kind]]
 
 
 def _stored_calls():
@@ -117,6 +145,26 @@ def _stored_calls():
     others = [line for line in book_runs.OTHER_KINDS.split(b"\n") if line]
     for _ in range(4):
         calls += _feedings(source, header, loans + others) + [b"c512"]
+    return calls + _table_calls(source, header, loans)
+
+
+def _table_calls(source, header, loans):
+    """Calls for the table."""
+    # Of no book; then of one that has not all its loans: 6 before 9, whatever the buffer.
+    calls = [b"o"] + _closings(b"t")
+    calls += [b"o" + header, b"f" + loans[0], b"f" + loans[1]] + _closings(b"t")
+    # A loan that is refused, with 5 or for its range, is in no cell, before the last loan and after it.
+    calls += [b"f" + loans[2].replace(b"(bal ", b"(bal 9"), b"f" + loans[2]] + _closings(b"t") + [b"f" + line for line in loans]
+    # Once more and after the report: a closing changes nothing, and lines go on being taken.
+    calls += [b"t8192", b"t8192", b"c512", b"t8192", b"f(equity 7)", b"t8192", b"c512"]
+    # A refused opening leaves no loan.
+    calls += [b"o" + header, b"f" + loans[0], b"o(claims 7)", b"t8192", b"f" + loans[0], b"t8192"]
+    # The limits of the columns, in two orders with refused lines between.
+    many = b"(book (loans %d) (unscored 0) (scores fresh) (held 0))"
+    many %= len(list(book_runs.limit_amounts())) * 3
+    limits = list(_limit_loans(many))
+    for _ in range(2):
+        calls += _feedings(source, many, limits) + [b"t8191", b"t8192"]
     return calls
 
 
@@ -134,10 +182,17 @@ def _book_calls(source):
     """A book, and calls that make it in two orders; they fit into one block."""
     while True:
         lines = book_runs.whole_book(source)
-        closings = [b"c511", b"c%d" % source.choice((512, 513, BUFFER))]
+        closings = [b"%s%d" % (kind, size) for kind in SIZES for size in (LEAST[kind] - 1, source.choice(SIZES[kind][2:]))]
         calls = [call for _ in range(2) for call in _feedings(source, lines[0], lines[1:]) + closings]
         if len(_input(calls)) <= stored.BLOCK:
             return lines, calls
+
+
+def _text_written(printed, kind):
+    """The text that both closings of a kind wrote, or None where they did not write one and the same."""
+    closings = re.findall(rb"(?m)^%s 0 (\d+)\n(?s:(.{%d}))\n" % (kind, BUFFERS[kind]), printed)
+    texts = [written[: int(length)] for length, written in closings]
+    return texts[0] if len(texts) == 2 and texts[0] == texts[1] else None
 
 
 def _problem(run, source):
@@ -145,14 +200,14 @@ def _problem(run, source):
     lines, calls = _book_calls(source)
     data = _input(calls)
     printed = run(data)
-    reports = re.findall(rb"^c 0 (\d+)\n(?s:(.{640}))\n", printed, re.M)
-    texts = [text[: int(length)] for length, text in reports]
-    if len(texts) != 2 or texts[0] != texts[1]:
-        return "not two equal reports", data, printed
-    expected = b"".join(answers(calls, lambda _: texts[0]))
+    report, table = (_text_written(printed, kind) for kind in SIZES)
+    if report is None or table is None:
+        return "not two equal reports and two equal tables", data, printed
+    expected = b"".join(answers(calls, {b"c": lambda _: report, b"t": lambda _: table}))
     if printed != expected:
         return f"expected {expected!r}", data, printed
-    return book_runs.problem(book.run(b"\n".join(lines)), texts[0]), data, printed
+    found = book.run(b"\n".join(lines))
+    return book_runs.problem(found, report) or book_runs.table_problem(found, report, table), data, printed
 
 
 def results(run, seed, count):

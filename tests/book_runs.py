@@ -2,10 +2,11 @@
 """Runs the built program over fixed, generated and damaged books and compares what it prints with the reference.
 
 Refusals are compared exactly; the two sums of the loans' numbers lie in the range that the reference allows; every other
-line follows exactly from them; the required amount keeps to its two bounds. A book that is not refused is held to two
-more: its lines in another order print the same bytes, and its two sums are those of the numbers that each of its loans
-has alone, in a book of its own. Besides, the program is run once with an input that goes on after a refusal, once with a read
-and once with a write that fails.
+line follows exactly from them; the required amount keeps to its two bounds. With the word `cells` the same bytes are printed, and
+after a report the table: counts and balances exactly, charges within what is allowed, counts and charges adding up to the report's
+loans and total. A book that is not refused is held to two more: its lines in another order print the same bytes, and its two
+sums, and the charge of each cell, are those of the numbers that each of its loans has alone, in a book of its own. Besides, the
+program is run with an input that goes on after a refusal, with a read and with a write that fails, and with other words.
 """
 import argparse
 import itertools
@@ -18,8 +19,9 @@ from fractions import Fraction
 from pathlib import Path
 
 import line_cases
-from reference import book, forms
+from reference import book, cells, forms
 
+CELLS = "cells"  # the word with which the program prints the table too
 LOAN_DISTANCE = Fraction(105, 100)  # of a loan's numbers from the exact ones, in cents
 PER_LOAN, BESIDES = 3, 3  # demand 3: the required amount exceeds the exact one by less than this
 
@@ -68,6 +70,57 @@ def _negative_weights():
     """Loans, each alone at m 3.0, whose total is one too low where the exponential of a negative weight is rounded up as the others are."""
     for numbers in ((92937, 125231, 1, 61), (119021, 143973, 3, 60), (161132, 195440, 2, 8)):
         yield _header(1, 1) + b"(loan (bal %d) (val %d) (amort %d) (term %d) (score none) (sup 0))\n" % numbers
+
+
+def loan(balance, value, score=b"720 7", months=240):
+    return b"(loan (bal %d) (val %d) (amort %d) (term %d) (score %s) (sup 1))" % (balance, value, months, months, score)
+
+
+def _book_of(loans, scores=b"aged"):
+    """The lines of a book that has these loans."""
+    unscored = sum(b"(score none)" in line for line in loans)
+    return [b"(book (loans %d) (unscored %d) (scores %s) (held 0))" % (len(loans), unscored, scores), *loans]
+
+
+def limit_amounts():
+    """Balances and values at each limit of loan-to-value and one cent either side: in lowest terms, out of 100, and nearly as large as they may be."""
+    for limit in cells.LIMITS:
+        part, whole = limit.as_integer_ratio()
+        for times in (1, 100 // whole, (200_000_000 - 1) // part):
+            balance, value = times * part, times * whole
+            yield [(balance, value), (balance - 1, value), (balance + 1, value), (balance, value - 1), (balance, value + 1)]
+
+
+# A balance and a value of each column.
+COLUMNS = ((52_000, 80_001), (64_000, 80_001), (90_000, 100_000), (94_999, 100_000), (200_000_000, 199_999_900))
+
+
+def _band_ends():
+    """The lowest and the highest score of each band."""
+    lowest = [300, *range(600, 781, 20)]
+    return sorted(lowest + [score - 1 for score in lowest[1:]] + [900])
+
+
+def _cell_books():
+    """Books for the table, each as its lines."""
+    yield from (_book_of([loan(*amounts) for amounts in row]) for row in limit_amounts())
+    # A balance above the value: in the charge the property counts as worth the balance, in the table it does not.
+    yield _book_of([loan(*amounts) for amounts in ((7, 7), (8, 7), (7, 1), (200_000_000, 200_000_000), (200_000_000, 1), (1, 10**10))])
+    # The bands' ends. The age of a score and the header's column of credit factors move the charge, not the band.
+    for scores in (b"fresh", b"aged"):
+        yield _book_of([loan(10_000_000 + score, 13_000_000, b"%d %d" % (score, age)) for score in _band_ends() for age in (0, 13, 600)], scores)
+    # Loans without a score in every column, at 3.0 and at 1.3.
+    unscored = [loan(*amounts, b"none") for amounts in COLUMNS]
+    yield _book_of(unscored)
+    yield _book_of(unscored + [loan(1_000_000 + i, 2_000_000) for i in range(95)])
+    # Every cell, no two with loans of the same balance, and one to four loans in each.
+    scores = [b"%d 7" % score for score in _band_ends()[::2]] + [b"none"]
+    every = [loan(balance - i, value, score) for i, score in enumerate(scores) for balance, value in COLUMNS]
+    yield _book_of([line for i, line in enumerate(every) for _ in range(1 + i % 4)])
+    # Charges below 0: alone in a cell, beside one above 0 and outweighed by it, and a whole book of them.
+    below = [loan(100_000, 140_000, score, months) for score in (b"590 7", b"655 7", b"none") for months in (1, 4)]
+    yield _book_of(below)
+    yield _book_of(below + [loan(100_000, 140_000, b"590 7"), loan(100_000, 140_000, b"700 7")])
 
 
 FIXED = (
@@ -200,6 +253,21 @@ def sums_of(printed):
     return found and tuple(map(int, found.groups()))
 
 
+def counts_of(report):
+    """The loans and the total that a report tells."""
+    return int(re.match(rb"\(loans (\d+)\)", report)[1]), sums_of(report)[0]
+
+
+def cells_of(table):
+    """The numbers of each cell that a table tells: band, column, count, balance, charge."""
+    rows = re.findall(rb"(?m)^\(cell (\d+) (\d+) (\d+) (\d+) (-?\d+)\)$", table)
+    return [tuple(map(int, row)) for row in rows]
+
+
+def charges_of(table):
+    return tuple(charge for *_, charge in cells_of(table))
+
+
 def problem(found, printed):
     """What is wrong with the output of a run, or None. `found` is the reference's book or refusal."""
     if isinstance(found, tuple):
@@ -224,6 +292,42 @@ def problem(found, printed):
     return None
 
 
+def table_problem(found, report, table):
+    """What is wrong with the table of a book whose report is this, or None."""
+    told = cells_of(table)
+    if len(told) != len(cells.PLACES):
+        return f"{len(told)} cells"
+    charges = charges_of(table)
+    sums = sum(count for _, _, count, _, _ in told), sum(charges)
+    if sums != counts_of(report):
+        return f"the cells have {sums[0]} loans and the charge {sums[1]} together"
+    expected = cells.text(found, charges)
+    if table != expected:
+        pairs = itertools.zip_longest(table.split(b"\n"), expected.split(b"\n"))
+        line, right = next(pair for pair in pairs if pair[0] != pair[1])
+        return f"the table has {line!r}, expected {right!r}"
+    for where, charge, (least, greatest) in zip(cells.PLACES, charges, cells.charge_bounds(found, LOAN_DISTANCE)):
+        if not least <= charge <= greatest:
+            return f"charge {charge} of cell {where} not in {least} to {greatest}"
+    return None
+
+
+def cells_problem(found, report, printed):
+    """What is wrong with what is printed with the table, or None; without it `report` is printed, a report or a refusal."""
+    if isinstance(found, tuple):
+        return None if printed == report else "with the table not the refusal alone"
+    if not printed.startswith(report):
+        return "with the table not the same report first"
+    return table_problem(found, report, printed[len(report) :])
+
+
+def outcome(run, data):
+    """What is wrong with what is printed of an input, or None; what is printed without the table, and with it."""
+    found = book.run(data)
+    report, with_cells = run(data), run(data, CELLS)
+    return problem(found, report) or cells_problem(found, report, with_cells), report, with_cells
+
+
 def alone(opened, line):
     """The input of a book that holds one loan of an opened book, with the same credit factor; and how many small loans besides.
 
@@ -237,9 +341,9 @@ def alone(opened, line):
 
 
 def sums_alone(run, lines):
-    """The sums of the two numbers that each loan has alone, or what is wrong with one of them."""
+    """The sums of the two numbers that each loan has alone, and the first in each cell; or what is wrong with a loan."""
     opened = book.open_book(lines[0])
-    total = supplement = 0
+    totals, supplement = [], 0
     for line in lines[1:]:
         if not line.startswith(b"(loan "):
             continue
@@ -249,50 +353,49 @@ def sums_alone(run, lines):
         if wrong is not None:
             return f"of the loan {line!r} alone: {wrong}"
         numbers = sums_of(printed)
-        total += numbers[0] - small * SMALL_TOTAL
+        totals.append((forms.read_feeding(line), numbers[0] - small * SMALL_TOTAL))
         supplement += numbers[1]
-    return total, supplement
+    return sum(total for _, total in totals), supplement, cells.by_cell(totals)
 
 
-def whole_problem(run, source, lines, printed):
-    """What is wrong with the report of a book that is not refused, or None."""
+def whole_problem(run, source, lines, report, with_cells):
+    """What is wrong with the report and the table of a book that is not refused, or None."""
     others = lines[1:]
     source.shuffle(others)
-    if run(_joined(source, lines[:1] + others)) != printed:
+    data = _joined(source, lines[:1] + others)
+    if run(data) != report:
         return "another report in another order"
+    if run(data, CELLS) != with_cells:
+        return "another table in another order"
     sums = sums_alone(run, lines)
-    return None if sums == sums_of(printed) else f"the sums of the loans alone: {sums}"
+    return None if sums == (*sums_of(report), charges_of(with_cells)) else f"the sums of the loans alone: {sums}"
 
 
-def generated(run, source, whole):
-    """One book, whole or damaged: what is wrong, the input, what was printed."""
-    lines = whole_book(source)
-    data = _joined(source, lines if whole else _damaged(source, lines))
-    printed = run(data)
-    wrong = problem(book.run(data), printed)
-    if wrong is None and whole:
-        wrong = whole_problem(run, source, lines, printed)
-    return wrong, data, printed
-
-
-def runner(program):
-    def run(data):
-        return subprocess.run([program], input=data, stdout=subprocess.PIPE, check=True).stdout
-
-    return run
+def whole_result(run, source, lines):
+    """A book that is not refused: what is wrong, the input, what was printed without the table and with it."""
+    data = _joined(source, lines)
+    wrong, report, with_cells = outcome(run, data)
+    return wrong or whole_problem(run, source, lines, report, with_cells), data, report + with_cells
 
 
 def given_results(run, inputs):
     """What came out of given inputs."""
     for data in inputs:
-        printed = run(data)
-        yield problem(book.run(data), printed), data, printed
+        wrong, report, with_cells = outcome(run, data)
+        yield wrong, data, report + with_cells
 
 
-def stopped(program):
+def runner(program):
+    def run(data, *words):
+        return subprocess.run([program, *words], input=data, stdout=subprocess.PIPE, check=True).stdout
+
+    return run
+
+
+def stopped(command):
     """What came out where the input goes on after a refusal: nothing more of it is waited for."""
     data = HEADER + b"x\n"
-    with subprocess.Popen([program], stdin=subprocess.PIPE, stdout=subprocess.PIPE) as process:
+    with subprocess.Popen(command, stdin=subprocess.PIPE, stdout=subprocess.PIPE) as process:
         process.stdin.write(data)
         process.stdin.flush()
         try:
@@ -304,7 +407,7 @@ def stopped(program):
     return problem(book.run(data), printed), data, printed
 
 
-def broken_read(program):
+def broken_read(command):
     """What came out where a read fails after a whole book: it is not taken for the end, and nothing is printed."""
     data = HEADER + OTHER_KINDS
     ours, theirs = socket.socketpair()
@@ -312,25 +415,56 @@ def broken_read(program):
         ours.send(data)
         theirs.send(b"x")
         ours.close()  # with a byte unread: the other side reads the data, then gets an error
-        done = subprocess.run([program], stdin=theirs, stdout=subprocess.PIPE, stderr=subprocess.PIPE, check=False)
+        done = subprocess.run(command, stdin=theirs, stdout=subprocess.PIPE, stderr=subprocess.PIPE, check=False)
     wrong = None if done.stdout == b"" and b"reading" in done.stderr else f"a failed read: {done.stderr!r} on standard error"
     return wrong, data, done.stdout
 
 
-def broken_write(program):
+def broken_write(command):
     """What came out where the report cannot be written: it is said on standard error."""
     data = HEADER + OTHER_KINDS
     with open("/dev/full", "wb") as full:
-        done = subprocess.run([program], input=data, stdout=full, stderr=subprocess.PIPE, check=False)
+        done = subprocess.run(command, input=data, stdout=full, stderr=subprocess.PIPE, check=False)
     wrong = None if b"writing" in done.stderr else f"a failed write: {done.stderr!r} on standard error"
     return wrong, data, b""
+
+
+# Words that the program does not know.
+OTHER_WORDS = (("",), ("cell",), ("cellss",), ("Cells",), ("--cells",), ("celle",), ("cells\n",), (CELLS, CELLS), (CELLS, ""), ("x", CELLS))
+
+
+def other_words(program):
+    """What came out where the program is given other words: a sentence, and no report."""
+    for words in OTHER_WORDS:
+        done = subprocess.run([program, *words], input=HEADER, capture_output=True, check=False)
+        wrong = None if done.stdout == b"" and done.stderr.endswith(b"\n") else f"with {words} {done.stderr!r} on standard error"
+        yield wrong, HEADER, done.stdout
+
+
+def single_results(program):
+    """What came out of runs that are no books."""
+    for command in ([program], [program, CELLS]):
+        for check in (stopped, broken_read, broken_write):
+            yield check(command)
+    yield from other_words(program)
 
 
 def results(run, seed, count):
     """What came out of so many generated books, half of them damaged."""
     source = random.Random(seed)
     for i in range(count):
-        yield generated(run, source, whole=i % 2 == 0)
+        lines = whole_book(source)
+        if i % 2 == 0:
+            yield whole_result(run, source, lines)
+        else:
+            yield from given_results(run, [_joined(source, _damaged(source, lines))])
+
+
+def fixed_results(run):
+    """What came out of the fixed books."""
+    source = random.Random(60)
+    yield from given_results(run, FIXED)
+    yield from (whole_result(run, source, lines) for lines in _cell_books())
 
 
 def failure(wrong, data, printed):
@@ -348,9 +482,7 @@ def main():
     if options.book:
         tried = given_results(run, [options.book.read_bytes()])
     else:
-        generated_books = results(run, options.seed, options.count)
-        single = [check(options.program) for check in (stopped, broken_read, broken_write)]
-        tried = itertools.chain(single, given_results(run, FIXED), generated_books)
+        tried = itertools.chain(single_results(options.program), fixed_results(run), results(run, options.seed, options.count))
     passed = failed = 0
     for result in tried:
         if result[0] is None:

@@ -17,7 +17,7 @@ import sys
 from pathlib import Path
 
 ROOT = Path(__file__).resolve().parent.parent
-TOP = ("crates", "tests", "bench", "docs", "examples", ".ci")
+TOP = ("crates", "tests", "tools", "bench", "docs", "examples", ".ci")
 PARTS = ("must-fail", "specs", "proofs", "src")
 # Names from outside the repository, and words that stand for others.
 KNOWN = {"NAME", "LABEL", "FILE", "refusedN", "lem", "ac"}
@@ -44,9 +44,9 @@ def names():
             found |= words_of(code_of(path))
         if path.suffix in (".rt", ".antt", ".edit"):
             found |= {path.stem, path.name}
-    for folder in ("tests", "bench", "examples", ".ci"):
+    for folder in ("tests", "tools", "bench", "examples", ".ci"):
         for path in ROOT.glob(f"{folder}/**/*"):
-            if path.is_file() and path.suffix not in (".md", ".pyc", ".report") and path != Path(__file__).resolve():
+            if path.is_file() and path.suffix not in (".md", ".pyc", ".report", ".cells") and path != Path(__file__).resolve():
                 found |= words_of(path.read_text(encoding="utf-8", errors="replace")) | {path.stem, path.name}
     found |= words_of((ROOT / "capital").read_text(encoding="utf-8"))
     return found | {path.name for path in ROOT.rglob("*.md")} | {path.name for path in ROOT.glob("crates/*")} | set(PARTS)

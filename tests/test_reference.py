@@ -5,7 +5,7 @@ import unittest
 from fractions import Fraction as F
 
 import book_runs
-from reference import book, exponential, forms, loan
+from reference import book, cells, exponential, forms, loan
 
 
 class Examples(unittest.TestCase):
@@ -114,6 +114,30 @@ class Books(unittest.TestCase):
             found = book.run(b"(book (loans 1) (unscored 0) (scores %s) (held 0))\n" % scores + book_runs.SMALL_LOAN)
             bounds = found.sum_bounds(book_runs.LOAN_DISTANCE)
             self.assertEqual(bounds, (book_runs.SMALL_TOTAL, book_runs.SMALL_TOTAL, 0, 0))
+
+    def test_cells(self):
+        """The table of three loans with known numbers, two of them in one cell, written out by hand."""
+        lines = book_runs.SMALL_LOAN * 2 + book_runs.SMALL_LOAN.replace(b"900 0", b"599 600")
+        found = book.run(b"(book (loans 3) (unscored 0) (scores fresh) (held 0))\n" + lines)
+        certain = [(charge, charge) for charge in (1, *[0] * 49, 2, *[0] * 9)]
+        self.assertEqual(list(cells.charge_bounds(found, book_runs.LOAN_DISTANCE)), certain)
+        table = cells.text(found, [charge for charge, _ in certain]).split(b"\n")
+        self.assertEqual(len(table), 61)
+        self.assertEqual((table[0], table[50]), (b"(cell 1 1 1 1 1)", b"(cell 11 1 2 2 2)"))
+        self.assertEqual((table[1], table[5], table[59], table[60]), (b"(cell 1 2 0 0 0)", b"(cell 2 1 0 0 0)", b"(cell 12 5 0 0 0)", b""))
+
+    def test_places_of_cells(self):
+        def place(balance, value, score):
+            return cells.place(forms.read_feeding(book_runs.loan(balance, value, score)))
+
+        columns = {64: 1, 65: 1, 66: 2, 80: 2, 81: 3, 90: 3, 91: 4, 95: 4, 96: 5, 100: 5, 101: 5}
+        for balance, column in columns.items():
+            self.assertEqual(place(balance, 100, b"none"), (12, column))
+        self.assertEqual(place(65_000_001, 100_000_000, b"none"), (12, 2))
+        bands = {300: 1, 599: 1, 600: 2, 619: 2, 620: 3, 699: 6, 700: 7, 779: 10, 780: 11, 900: 11}
+        for score, band in bands.items():
+            for age in (0, 600):
+                self.assertEqual(place(1, 1, b"%d %d" % (score, age)), (band, 5))
 
 
 if __name__ == "__main__":

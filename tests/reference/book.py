@@ -161,24 +161,30 @@ class Book:
         self.taken.append(form)
         return 0
 
-    def closing_refusal(self, buffer=REPORT_BUFFER):
+    def closing_refusal(self, buffer=REPORT_BUFFER, least=REPORT_BUFFER):
+        """0 where a text that asks for so many bytes at least can be written into such a buffer, else the refusal."""
         if self.loan_count < self.loans or self.unscored_count < self.unscored:
             return 6
-        return 9 if buffer < REPORT_BUFFER else 0
+        return 9 if buffer < least else 0
 
     def loan_terms(self, form):
         """What a loan taken is charged on: balance, value, months, term, sup and its credit factor."""
         balance, value, months, term, score, sup = loan_values(form)
         return balance, value, months, term, sup, loan.credit_factor(score, self.aged, self.loans, self.unscored)
 
-    def _loans_taken(self):
-        return [self.loan_terms(f) for f in self.taken if f.kind in ("loan", "loan_unscored")]
+    def loan_forms(self):
+        """The forms of the loans taken."""
+        return [form for form in self.taken if form.kind in ("loan", "loan_unscored")]
+
+    def number_bounds(self, form, distance):
+        """The least and greatest allowed total number of a loan taken, and supplement number."""
+        return _allowed_numbers(self.loan_terms(form), distance)
 
     def sum_bounds(self, distance):
         """The least and greatest allowed sum of the loans' total numbers, and of their supplements."""
         sums = [0, 0, 0, 0]
-        for terms in self._loans_taken():
-            sums = [s + x for s, x in zip(sums, _allowed_numbers(terms, distance))]
+        for form in self.loan_forms():
+            sums = [s + x for s, x in zip(sums, self.number_bounds(form, distance))]
         return tuple(sums)
 
     def sums(self, kind):
@@ -217,8 +223,8 @@ class Book:
         rest = sum(map(rest_share, self.taken), Fraction(0))
         ends = []
         totals, supplements = [], []
-        for terms in self._loans_taken():
-            total, supplement = _exact_terms(*terms)
+        for form in self.loan_forms():
+            total, supplement = _exact_terms(*self.loan_terms(form))
             totals.append(combination_bounds(total))
             supplements.append(combination_bounds(supplement))
         for side in (0, 1):

@@ -167,14 +167,18 @@ def total(z, balance, months, term, sup, m):
     return base(z, balance, months, term, m) + supplement(z, balance, months, term, sup, m)
 
 
+def band(number):
+    """The band of a score, 1 to 11 upward."""
+    return sum(1 for lowest, _ in CREDIT_BANDS if lowest <= number)
+
+
 def credit_factor(score, aged, loans, unscored):
     """000, 1.1.4. The score is None or (number, age in months); loans and unscored are the header's."""
     if score is None:
         return Fraction("3.0") if 20 * unscored > loans else Fraction("1.3")
     number, age = score
-    factors = [f for lowest, f in CREDIT_BANDS if lowest <= number][-1]
     column = sum(1 for limit in AGE_LIMITS if age > limit) if aged else 0
-    return Fraction(factors[column])
+    return Fraction(CREDIT_BANDS[band(number) - 1][1][column])
 
 
 def allowed_total(terms, distance):
