@@ -8,10 +8,10 @@ use Rattle.try_book.proofs.call_all.Statement.{statement}
 use Rattle.try_book.proofs.call_all.Tie as tie
 
 abbrev Inv-loop : tie.InvT-loop
-Inv-loop s b₀ at₀ b at = Sound (stateAt b builtInRates)
+Inv-loop s cells₀ b₀ at₀ cells b at = Sound (stateAt b builtInRates cells)
 
 abbrev μ-loop : tie.MeasureT-loop
-μ-loop s b₀ at₀ b at = length s - at
+μ-loop s cells₀ b₀ at₀ cells b at = length s - at
 
 pub call-all-spec : {M : Type 1} → statement M
 call-all-spec =
@@ -23,11 +23,6 @@ call-all-spec =
     (λ c κs. search needs)
     (λ c. search needs)
     (λ c κs. search needs)
-    (λ c. search needs)
-    (λ c. search needs)
-    (λ c. search needs)
-    (λ c κs. search needs)
-    (λ c. search needs)
     (λ c. search needs)
     (λ c. search needs)
     (λ c. search needs))
