@@ -132,9 +132,9 @@ fn add_loan(b: Book, exps: &Exponentials, rates: &Rates, cells: &mut Cells, l: L
             book: b,
         };
     }
+    let place = cells::place_of(l);
     let share = shares::loan(header, l, exps, rates);
     let total = share.total;
-    let place = cells::place_of(l);
     cells::add_loan(cells, place, l.balance, total);
     with_share(b, share)
 }

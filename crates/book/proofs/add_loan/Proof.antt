@@ -1,6 +1,4 @@
 use denote.Ref.{now}
-use mathlib.Core.Path.{_≡_}
-use native.Mathlib.Omega.{arith}
 use Rattle.book_model.specs.Calls.{State, stateAt}
 use Rattle.book.proofs.Answers.{loan-refused, loan-asks, cell-asks, loan-taken}
 use borrow.Author.Needs.{needs}
@@ -18,18 +16,18 @@ returns c = loan-refused (stateFor (c .before .before .before .before)) (c .befo
 add-loan-requires : tie.Need-add-loan-requires
 unfolding stateFor
 add-loan-requires c κs =
-    let k = cell-asks (stateFor (c .before .before .before .before .before .before .before .before)) (c .before .before .before .before .before .before .before .before .args .l) (c .before .before .before .before .before .loan-beyond .ensures) (c .before .before .before .before .if1 .left) (c .before .before .before .loan .ensures) (c .before .before .before .before .before .before .before .before .pre .0) (c .before .before .before .before .before .before .before .before .pre .1) in
-    (c .before .place-of .ensures .1, k .0, k .1, k .2, k .3)
+    let k = cell-asks (stateFor (c .before .before .before .before .before .before .before .before)) (c .before .before .before .before .before .before .before .before .args .l) (c .before .before .before .before .before .loan-beyond .ensures) (c .before .before .before .before .if1 .left) (c .before .before .loan .ensures) (c .before .before .before .before .before .before .before .before .pre .0) (c .before .before .before .before .before .before .before .before .pre .1) in
+    (c .before .before .before .place-of .ensures .1, k .0, k .1, k .2, k .3)
 
 with-share-requires : tie.Need-with-share-requires
 unfolding stateFor
 with-share-requires c κs =
-    loan-asks (stateFor (c .before .before .before .before .before .before .before .before .before)) (c .before .before .before .before .before .before .before .before .before .args .l) (c .before .before .before .before .before .before .loan-beyond .ensures) (c .before .before .before .before .before .if1 .left) (c .before .before .before .before .loan .ensures) (c .before .before .before .before .before .before .before .before .before .pre .0) (c .before .before .before .before .before .before .before .before .before .pre .1)
+    loan-asks (stateFor (c .before .before .before .before .before .before .before .before .before)) (c .before .before .before .before .before .before .before .before .before .args .l) (c .before .before .before .before .before .before .loan-beyond .ensures) (c .before .before .before .before .before .if1 .left) (c .before .before .before .loan .ensures) (c .before .before .before .before .before .before .before .before .before .pre .0) (c .before .before .before .before .before .before .before .before .before .pre .1)
 
 returns-2 : tie.Need-returns-2
 unfolding stateFor
 returns-2 c =
-    loan-taken (stateFor (c .before .before .before .before .before .before .before .before .before .before)) (c .before .before .before .before .before .before .before .before .before .before .args .l) (c .before .before .before .before .before .before .before .loan-beyond .ensures) (c .before .before .before .before .before .before .if1 .left) (c .before .before .before .before .before .loan .ensures) (c .before .before .before .place-of .ensures .0)
+    loan-taken (stateFor (c .before .before .before .before .before .before .before .before .before .before)) (c .before .before .before .before .before .before .before .before .before .before .args .l) (c .before .before .before .before .before .before .before .loan-beyond .ensures) (c .before .before .before .before .before .before .if1 .left) (c .before .before .before .before .loan .ensures) (c .before .before .before .before .before .place-of .ensures .0)
     (c .with-share .ensures) (c .before .add-loan .ensures)
 
 pub add-loan-spec : {M : Type 1} → statement M
