@@ -143,7 +143,7 @@ def reading_order_problems():
         else:
             wrong.append(f"docs/PROOFS.md: {what} has {found} lines and is said to have {said}")
 
-    for step, read, total in re.findall(r"(?m)^\| (\d) \| (.*) \| ([\d,]+) \|$", text):
+    for step, read, total in re.findall(r"(?m)^\| (\d+) \| (.*) \| ([\d,]+) \|$", text):
         folder = re.search(r" in `(crates/[^`]*)`", read)
         lines = 0
         for name, said in re.findall(r"`([^`]*)` \((\d+)\)", read):

@@ -4,7 +4,6 @@ use mathlib.Core.Bool.{Bool, true, false}
 use mathlib.Core.List.{List, [], _∷_, _++_, map, append-assoc, List·Permᴰ, List·Permᴰ·nil, List·Permᴰ·cons, List·Permᴰ·swap, List·Permᴰ·trans}
 use mathlib.Core.Logic.{_↔_}
 use Prim.Native.Nat.{ℕ}
-use native.Mathlib.Nat.{sub-zero}
 use native.Mathlib.Omega.{arith}
 use lib.Dec.{eqb, eqb→eq}
 use lib.ListN.{length, take, drop, length-append}
@@ -26,9 +25,8 @@ use Rattle.figures.specs.declared.Sums.{Sums}
 use Rattle.figures.specs.Figures.{figuresFrom, figuresOf}
 use Rattle.figures.specs.Sums.{sumOf}
 use Rattle.figures.proofs.SumsLaws.{sum-permuted}
-use Rattle.report.specs.Decimal.{digits, signed}
 use Rattle.report.specs.Line.{onto}
-use Rattle.report.proofs.Decimal.{digits-value, signed-positive}
+use Rattle.report.proofs.Decimal.{digits-value, signed-whole}
 use Rattle.book_report.specs.Report.{unsigned, valueLine, ratioLine, headText, reportText}
 use Rattle.book_model.specs.declared.Book.{Book}
 use Rattle.book_model.specs.Accepted.{Accepted, noneAccepted, countsIn, refusalOf, accept}
@@ -153,9 +151,6 @@ eighth f =
     regroup (headText f) (valueLine "rest" (unsigned (f .rest))) (valueLine "oper" (unsigned (f .oper)))
     (valueLine "required" (unsigned (f .required))) (valueLine "capital" (f .capital)) (ratioLine (f .ratio))
 
-whole-text : (n : ℕ) → signed (unsigned n) ≡ digits n
-whole-text n = signed-positive (unsigned n) (omega arith) ∙ ap digits (sub-zero n)
-
 near-taken : (t : Terms) → RatesInRange (t .rates) → (kept : List (List ℕ)) →
     Eventually (λ x. Near (requirement t kept .value x) (figuresFor t kept .required) hundredthsPerLoan (countsIn kept .loans))
 near-taken t r kept = rw (required-is t kept) at (near hundredthsPerLoan (omega arith) (rates-chargeable t r) kept)
@@ -169,7 +164,7 @@ measured-of t r kept =
       required = f .required;
       before = headText f ++ (valueLine "rest" (unsigned (f .rest)) ++ valueLine "oper" (unsigned (f .oper)));
       after = valueLine "capital" (f .capital) ++ ratioLine (f .ratio);
-      line-eight = rw (← whole-text (f .required)) (eighth f);
+      line-eight = rw (← signed-whole (f .required)) (eighth f);
       read-back = digits-value (f .required);
       not-below = at-every-order (requirement t kept) (λ v. v ≼ whole (f .required)) exponents
           (mapped (λ m n. (n .proper, n .not-below)) (near-taken t r kept));

@@ -12,19 +12,22 @@ use Rattle.fixed_point.specs.declared.Signed.{Signed}
 use Rattle.line_forms.specs.declared.Loan.{Loan}
 use Rattle.line_forms.specs.declared.Content.{Content}
 use Rattle.line_forms.specs.declared.Content.the-variants.{Loan as loan}
-use Rattle.line_forms.specs.Claims.{lineContent}
+use Rattle.line_forms.specs.declared.Line.{Line}
+use Rattle.line_forms.specs.declared.Line.the-variants.{Loan as LoanLine, Policy as PolicyLine, Derivative as DerivativeLine, Asset as AssetLine}
+use Rattle.line_forms.specs.declared.Line.the-variants.{Amount as AmountLine, Refusal}
+use Rattle.line_forms.specs.Claims.{ShowsInRange, lineContent}
 use Rattle.line_forms.specs.Readings.{lineOf}
+use Rattle.line_forms.proofs.LineLaws.{line-accepted}
 use Rattle.figures.specs.Sums.{sumOf}
-use Rattle.cell_report.specs.declared.Cell.{Cell}
 use Rattle.cell_report.specs.CellReport.{placeOf, cellAt}
 use Rattle.cell_report.proofs.Laws.{cells-alike}
 use Rattle.book_model.specs.Accepted.{Accepted}
-use Rattle.book_model.specs.Calls.{State, cellsSize, cellsTextOf}
+use Rattle.book_model.specs.Calls.{cellsSize, cellsTextOf}
 use Rattle.book_model.specs.Cells.{loanBand, loanLtv, ofLoan}
 use Rattle.book_model.specs.Demand3.{figuresFor}
 use Rattle.book_model.specs.History.{opened, allFed, termsOf, acceptedOf, linesTaken, sumsOf}
 use Rattle.book_model.specs.LineKinds.{kindCounts}
-use Rattle.book_model.specs.LoanTable.{sumBy, inCell, cellFor, cellsFor, sumTo, overCells, CellSums, WritesCells, SameTables, LoanTable}
+use Rattle.book_model.specs.LoanTable.{sumBy, inCell, CellAdds, cellFor, cellsFor, sumTo, overCells, CellSums, WritesCells, SameTables, LoanTable}
 use Rattle.book_model.specs.Share.{loanNumbers, loanShare, share}
 use Rattle.book_model.specs.Terms.{Terms}
 use Rattle.book_model.proofs.Bands.{bands, columns}
@@ -135,6 +138,32 @@ module _ (band ltv : ℕ) (l : Loan) (b : Between 1 12 band) (k : Between 1 5 lt
       let same : (loanBand l ≡ band) × (loanLtv l ≡ ltv) =
       (omega (arith, f, b .least, b .most, k .least, k .most, x .least, x .most, y .least, y .most), omega (arith, f, b .least, b .most, k .least, k .most, x .least, x .most, y .least, y .most)) in
       true≢false (sym (rw (eq-eqb (loanBand l) band (same .0), eq-eqb (loanLtv l) ltv (same .1)) refl) ∙ e)
+
+-- What a line adds to a cell, by its bytes
+
+no-member : (test : Bool) (n : ℕ) → (test ≡ true → ⊥) → pick test n 0 ≡ 0
+no-member true n h = absurd (h refl)
+no-member false n h = refl
+
+cell-adds : (s : List ℕ) (band ltv : ℕ) (f : Loan → ℕ) → CellAdds s band ltv f
+cell-adds s band ltv f = record {
+  member = λ l h b k.
+      rw (line-accepted s (loan l) tt .1 (h .shows .writable, h .in-range, h .shows .bytes), eq-eqb (loanBand l) band b, eq-eqb (loanLtv l) ltv k) refl;
+  other = λ h. go (lineOf s) refl h;
+}
+  where
+    go : (l : Line) → lineOf s ≡ l → ((x : Loan) → ShowsInRange s (loan x) → loanBand x ≡ band → loanLtv x ≡ ltv → ⊥) → inCell band ltv f (lineContent l) ≡ 0
+    go (LoanLine l) e h =
+        let (w, r, y) = line-accepted s (loan l) tt .0 e in
+        no-member (eqb (loanBand l) band && eqb (loanLtv l) ltv) (f l)
+        (λ t.
+        let (b, k) = both (eqb (loanBand l) band) (eqb (loanLtv l) ltv) t in
+        h l (record { shows = record { writable = w; bytes = y }; in-range = r }) (eqb-true (loanBand l) band b) (eqb-true (loanLtv l) ltv k))
+    go (PolicyLine p) e h = refl
+    go (DerivativeLine d) e h = refl
+    go (AssetLine a) e h = refl
+    go (AmountLine a) e h = refl
+    go (Refusal n) e h = refl
 
 -- The place j of a cell sums f over the loans of its band and column, where f is what a loan adds there.
 module _ (t : Terms) (band ltv j : ℕ) (b : Between 1 12 band) (k : Between 1 5 ltv) (few : j < 4) (f : Loan → ℕ)
@@ -332,6 +361,7 @@ pub loan-table : LoanTable
 loan-table = record {
   bands = bands;
   columns = columns;
+  adds = cell-adds;
   cells = λ header lines. rw (after-is header lines) (cell-is (termsOf (opened header)) (linesTaken (allFed (opened header) lines)));
   closes = λ header lines. rw (after-is header lines) (cells-written (termsOf (opened header)) (acceptedOf (allFed (opened header) lines)));
   sums = λ header lines. cell-sums (termsOf (opened header)) (linesTaken (allFed (opened header) lines));

@@ -11,7 +11,8 @@ use Rattle.exact.specs.Choice.{pick}
 use Rattle.loan_charge.specs.declared.Score.the-variants.{Scored, Unscored}
 use Rattle.line_forms.specs.declared.Loan.{Loan}
 use Rattle.line_forms.specs.declared.Content.{Content}
-use Rattle.line_forms.specs.Claims.{lineContent}
+use Rattle.line_forms.specs.declared.Content.the-variants.{Loan as loan}
+use Rattle.line_forms.specs.Claims.{ShowsInRange, lineContent}
 use Rattle.line_forms.specs.Readings.{lineOf}
 use Rattle.cell_report.specs.declared.Cell.{Cell}
 use Rattle.cell_report.specs.CellReport.{cellsText, cellAt}
@@ -46,6 +47,11 @@ sumBy f (s ∷ kept) = f (lineContent (lineOf s)) + sumBy f kept
 -- something of the loans of one band and column
 abbrev pub inCell : (band ltv : ℕ) → (Loan → ℕ) → Content → ℕ
 inCell band ltv f c = ofLoan (λ l. pick (eqb (loanBand l) band && eqb (loanLtv l) ltv) (f l) 0) 0 c
+
+-- By the bytes of a line: where it shows a loan of that band and column, that loan's, and else nothing.
+pub record CellAdds (s : List ℕ) (band ltv : ℕ) (f : Loan → ℕ) : Type 0 where
+  pub member : (l : Loan) → ShowsInRange s (loan l) → loanBand l ≡ band → loanLtv l ≡ ltv → inCell band ltv f (lineContent (lineOf s)) ≡ f l
+  pub other : ((l : Loan) → ShowsInRange s (loan l) → loanBand l ≡ band → loanLtv l ≡ ltv → ⊥) → inCell band ltv f (lineContent (lineOf s)) ≡ 0
 
 -- Each cell counts and sums exactly the loans taken of its band and column. A loan's charge is its base plus supplement.
 unfoldable pub cellFor : Terms → List (List ℕ) → (band ltv : ℕ) → Cell
@@ -92,6 +98,7 @@ SameTables s u =
 pub record LoanTable : Type 0 where
   pub bands : Bands
   pub columns : Columns
+  pub adds : (s : List ℕ) (band ltv : ℕ) (f : Loan → ℕ) → CellAdds s band ltv f
   -- Each cell of the table that feeding keeps counts and sums exactly the loans taken of its band and column,
   pub cells : (header : List ℕ) (lines : List (List ℕ)) (band ltv : ℕ) → 1 ≤ band → band ≤ 12 → 1 ≤ ltv → ltv ≤ 5 →
       cellAt (afterLines (opening header .state) lines .cells) band ltv ≡

@@ -35,9 +35,9 @@ fn cell_at(cells: &Cells, band: u64, ltv: u64) -> Cell
 
 // One line. Each number has at most 20 digits, and the charge a sign.
 fn put_cell(out: &mut [u8], band: u64, ltv: u64, cell: Cell) -> usize
-    requires { ⌜ 113 ≤ length (now out) ⌝ }
+    requires { ⌜ 117 ≤ length (now out) ⌝ }
     ensures line { λ r. ⌜ Written (now (out .entry)) (cellLine band ltv cell) r (now (out .exit)) ⌝ }
-    ensures short { λ r. ⌜ r ≤ 113 ⌝ }
+    ensures short { λ r. ⌜ r ≤ 117 ⌝ }
 {
     let charge = cell.charge;
     let named = report::put_bytes(out, b"(cell");
@@ -51,9 +51,9 @@ fn put_cell(out: &mut [u8], band: u64, ltv: u64, cell: Cell) -> usize
 
 // The line of a table's cell after the first `at` bytes.
 fn add_cell(out: &mut [u8], at: usize, cells: &Cells, band: u64, ltv: u64) -> usize
-    requires { ⌜ (at + 113 ≤ length (now out)) × (1 ≤ band) × (band ≤ 12) × (1 ≤ ltv) × (ltv ≤ 5) ⌝ }
+    requires { ⌜ (at + 117 ≤ length (now out)) × (1 ≤ band) × (band ≤ 12) × (1 ≤ ltv) × (ltv ≤ 5) ⌝ }
     ensures line { λ r. ⌜ Added (now (out .entry)) at (cellText (cellAt (now (cells .entry))) band ltv) r (now (out .exit)) ⌝ }
-    ensures short { λ r. ⌜ r ≤ at + 113 ⌝ }
+    ensures short { λ r. ⌜ r ≤ at + 117 ⌝ }
 {
     let cell = cell_at(cells, band, ltv);
     at + put_cell(&mut out[at..], band, ltv, cell)
@@ -61,9 +61,9 @@ fn add_cell(out: &mut [u8], at: usize, cells: &Cells, band: u64, ltv: u64) -> us
 
 // The lines of a band.
 fn put_band(out: &mut [u8], cells: &Cells, band: u64) -> usize
-    requires { ⌜ (565 ≤ length (now out)) × (1 ≤ band) × (band ≤ 12) ⌝ }
+    requires { ⌜ (585 ≤ length (now out)) × (1 ≤ band) × (band ≤ 12) ⌝ }
     ensures lines { λ r. ⌜ Written (now (out .entry)) (bandText (cellAt (now (cells .entry))) band) r (now (out .exit)) ⌝ }
-    ensures short { λ r. ⌜ r ≤ 565 ⌝ }
+    ensures short { λ r. ⌜ r ≤ 585 ⌝ }
 {
     let one = add_cell(out, 0, cells, band, 1);
     let two = add_cell(out, one, cells, band, 2);

@@ -1,10 +1,10 @@
 -- Laws of the text of signed numbers.
 -- Assumes nothing.
-use mathlib.Core.Path.{_≡_, refl}
+use mathlib.Core.Path.{_≡_, refl, ap, _∙_}
 use mathlib.Core.List.{_++_}
 use Prim.Native.Nat.{ℕ, _+_, _-_, _^_, _≤_, _<_}
 use mathlib.Core.Logic.{_⊎_, inl, inr, ⊎-elim}
-use native.Mathlib.Nat.{eq-zero-or-pos}
+use native.Mathlib.Nat.{eq-zero-or-pos, sub-zero}
 use native.Mathlib.Omega.{arith}
 use lib.ListN.{length}
 use Rattle.exact.specs.Text.{text}
@@ -22,6 +22,10 @@ signed-positive v h = simp (le-ltb (v .plus) (v .minus) h)
 pub signed-negative : (v : Signed) → v .plus < v .minus → signed v ≡ text "-" ++ digits (v .minus - v .plus)
 unfolding signed
 signed-negative v h = simp (lt-ltb (v .plus) (v .minus) h)
+
+-- a number with no part below 0
+pub signed-whole : (n : ℕ) → signed (record { plus = n; minus = 0 }) ≡ digits n
+signed-whole n = signed-positive (record { plus = n; minus = 0 }) (omega arith) ∙ ap digits (sub-zero n)
 
 sign : (v : Signed) → (v .plus < v .minus) ⊎ (v .minus ≤ v .plus)
 sign v = ⊎-elim (λ e. inr (omega arith)) (λ h. inl (omega arith)) (eq-zero-or-pos (v .minus - v .plus))

@@ -72,15 +72,6 @@ fn put_value(out: &mut [u8], value: Signed) -> usize
     1 + put_signed(&mut out[1..], value)
 }
 
-// A space and a number after the first `at` bytes.
-pub fn add_number(out: &mut [u8], at: usize, n: u64) -> usize
-    requires { ⌜ at + 21 ≤ length (now out) ⌝ }
-    ensures number { λ r. ⌜ Added (now (out .entry)) at (text " " ++ digits n) r (now (out .exit)) ⌝ }
-    ensures short { λ r. ⌜ r ≤ at + 21 ⌝ }
-{
-    at + put_marked_number(&mut out[at..], b' ', n)
-}
-
 // A space and a number with its sign after the first `at` bytes.
 pub fn add_value(out: &mut [u8], at: usize, value: Signed) -> usize
     requires { ⌜ at + 22 ≤ length (now out) ⌝ }
@@ -88,6 +79,16 @@ pub fn add_value(out: &mut [u8], at: usize, value: Signed) -> usize
     ensures short { λ r. ⌜ r ≤ at + 22 ⌝ }
 {
     at + put_value(&mut out[at..], value)
+}
+
+// The same for a number that has no sign.
+pub fn add_number(out: &mut [u8], at: usize, n: u64) -> usize
+    requires { ⌜ at + 22 ≤ length (now out) ⌝ }
+    ensures number { λ r. ⌜ Added (now (out .entry)) at (text " " ++ digits n) r (now (out .exit)) ⌝ }
+    ensures short { λ r. ⌜ r ≤ at + 22 ⌝ }
+{
+    let value = Signed { plus: n, minus: 0 };
+    add_value(out, at, value)
 }
 
 // A line with a name and a number, as `(rest 451)`.

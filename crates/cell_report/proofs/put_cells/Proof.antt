@@ -1,4 +1,4 @@
--- `put_cells` meets its contract. The loop's invariant: the lines of the bands so far are written, at most 565 bytes each.
+-- `put_cells` meets its contract. The loop's invariant: the lines of the bands so far are written, at most 585 bytes each.
 -- The measure is how many bands are left.
 -- Assumes nothing.
 use mathlib.Core.Path.{_≡_, refl}
@@ -15,7 +15,7 @@ use Rattle.cell_report.proofs.put_cells.Tie as tie
 
 abbrev Inv-loop : tie.InvT-loop
 Inv-loop out₀ cells at₀ bands₀ out at bands =
-    (bands ≤ 12) × (at ≤ 565 * bands) × (length out ≡ length out₀) × Written out₀ (bandsText (cellAt cells) bands) at out
+    (bands ≤ 12) × (at ≤ 585 * bands) × (length out ≡ length out₀) × Written out₀ (bandsText (cellAt cells) bands) at out
 
 abbrev μ-loop : tie.MeasureT-loop
 μ-loop out₀ cells at₀ bands₀ out at bands = 12 - bands
