@@ -3,7 +3,7 @@
 use mathlib.Core.Path.{_≡_, refl, sym, _∙_, ap, ap₂, subst}
 use mathlib.Core.Bool.{Bool, true, false}
 use mathlib.Core.List.{List}
-use Prim.Native.Nat.{ℕ, _≤_}
+use Prim.Native.Nat.{ℕ}
 use native.Mathlib.Omega.{arith}
 use lib.Dec.{eqb}
 use Rattle.exact.specs.Choice.{pick}
@@ -26,15 +26,15 @@ use Rattle.book_model.specs.declared.Fed.{Fed}
 use Rattle.book_model.specs.Accepted.{loanBeyond, loanRefusal, otherRefusal, refusalFor}
 use Rattle.book_model.specs.Calls.{State, Answer, stateAt, termsIn, openedOf, fedOf, zeroHeader, emptyBook, openingFor, opening, refusalIn, bookAfter}
 use Rattle.book_model.specs.Calls.{tableWith, cellsAfter, feedingLine, feeding, SoundBook, Sound}
-use Rattle.book_model.specs.Cells.{loanBand, loanLtv, noCells, withLoan, cellsWith, CellsBounded}
+use Rattle.book_model.specs.Cells.{loanBand, loanLtv, noCells, withCell, cellsWith, CellsBounded}
 use Rattle.book_model.specs.LineKinds.{a-loan, another, contentKind, kindOf, kindCounts}
-use Rattle.book_model.specs.Ranges.{LoanRanges, Ranged}
+use Rattle.book_model.specs.Ranges.{LoanRanges, CellRanges, Ranged}
 use Rattle.book_model.specs.Share.{share, loanShare}
 use Rattle.book_model.specs.Steps.{answerWith}
 use Rattle.book_model.specs.Terms.{under}
-use Rattle.book_model.proofs.BoundedShares.{loan-bounded, counted}
+use Rattle.book_model.proofs.BoundedShares.{counted}
 use Rattle.book_model.proofs.Cells.{bounded-wider}
-use Rattle.book_model.proofs.Feeding.{room, book-room, asks, line-bounded, fed-refused, fed-sound, opening-sound}
+use Rattle.book_model.proofs.Feeding.{room, book-room, asks, line-bounded, cell-ranges, fed-refused, fed-sound, opening-sound}
 use Rattle.book_model.proofs.Near.{rates-chargeable}
 use Rattle.book_model.proofs.Ranged.{ranged, ranged-header}
 
@@ -159,25 +159,21 @@ module _ (s : State) (l : Loan) {beyond : Bool} (test : beyond ≡ loanBeyond (s
         (room (termsIn s) (s .book .sums .counts) (a-loan (l .score)) (book-room (h .book)) (rw f refl)))
 
     -- what adding it to its cell asks
-    pub cell-asks : Sound s → LoanRanges l →
-        CellsBounded (s .cells) 4000000 × (l .balance ≤ 300000000) × (x .total .plus ≤ 300000000) × (x .total .minus ≤ 300000000)
-    unfolding loanShare kindCounts
-    cell-asks h r =
-        let b : Bounded (loanShare (termsIn s) l) = loan-bounded (rates-chargeable (termsIn s) (h .rates)) l r in (
-          bounded-wider (s .cells) (omega (arith, h .book .loans, h .book .header-loans)) (h .cells),
-          omega (arith, r .balance-most),
-          rw k (omega (arith, b .total-plus)),
-          rw k (omega (arith, b .total-minus)),
-        )
+    pub cell-asks : Sound s → LoanRanges l → CellsBounded (s .cells) 4000000 × CellRanges (record { count = 1; balance = l .balance; charge = x .total })
+    unfolding loanShare
+    cell-asks h r = (
+      bounded-wider (s .cells) (omega (arith, h .book .loans, h .book .header-loans)) (h .cells),
+      rw k (cell-ranges (rates-chargeable (termsIn s) (h .rates)) l r),
+    )
 
     pub loan-taken : {place : ℕ} → place ≡ placeOf (loanBand l) (loanLtv l) → {r : Fed} {cells : List ℕ} → r ≡ answerWith 0 (s .book) x →
-        cells ≡ withLoan (s .cells) place (l .balance) (x .total) → Adds r cells
+        cells ≡ withCell (s .cells) place (record { count = 1; balance = l .balance; charge = x .total }) → Adds r cells
     unfolding loanShare cellsWith
     loan-taken p {r} {cells} m n =
         let f : loanBeyond (s .book .header) (s .book .sums .counts) (l .score) ≡ false = sym test ∙ e in (
           taken-with (loanBeyond (s .book .header) (s .book .sums .counts) (l .score)) 5 (s .book) (loanShare (termsIn s) l) f (m
               ∙ ap (answerWith 0 (s .book)) k),
-          rw f (n ∙ ap₂ (λ (at : ℕ) (y : Sums). withLoan (s .cells) at (l .balance) (y .total)) p k),
+          rw f (n ∙ ap₂ (λ (at : ℕ) (y : Sums). withCell (s .cells) at (record { count = 1; balance = l .balance; charge = y .total })) p k),
         )
 
 -- what adding another line within the limit asks

@@ -20,6 +20,7 @@ use book_model::Book;
 use book_model::Closed;
 use book_model::Fed;
 use book_model::Opened;
+use cell_report::Cell;
 use cell_report::Cells;
 use figures::Counts;
 use figures::Sums;
@@ -134,8 +135,13 @@ fn add_loan(b: Book, exps: &Exponentials, rates: &Rates, cells: &mut Cells, l: L
     }
     let place = cells::place_of(l);
     let share = shares::loan(header, l, exps, rates);
-    let total = share.total;
-    cells::add_loan(cells, place, l.balance, total);
+    let charge = share.total;
+    let cell = Cell {
+        count: 1,
+        balance: l.balance,
+        charge,
+    };
+    cells::add_cell(cells, place, cell);
     with_share(b, share)
 }
 

@@ -5,13 +5,12 @@ use Prim.Native.Nat.{ℕ, _+_, _*_, _-_, _/_, _≤_, _<_, min}
 use native.Mathlib.Decide.{decLe}
 use native.Mathlib.Omega.{arith}
 use mathlib.Core.Bool.{Bool, true, false}
-use lib.Dec.{ltb}
 use borrow.Author.Tests.{lt-ltb, le-ltb}
 use Rattle.exact.specs.Choice.{pick}
 use Rattle.loan_charge.specs.Computation.{limits, reachedOf}
 use Rattle.loan_charge.specs.CreditFactor.{count, band}
 use Rattle.loan_charge.proofs.CreditLaws.{none-reached, some-reached}
-use Rattle.book_model.specs.Cells.{bandOf, ltvOf}
+use Rattle.book_model.specs.Cells.{bandOf, beyond, ltvOf}
 use Rattle.book_model.specs.LoanTable.{Bands, Columns}
 
 -- A number reaches m exactly where x lies above a limit.
@@ -30,7 +29,7 @@ reaches {m} {n} {limit} {x} f g = record {
 module _ (p q : ℕ) where
   -- 1 where balance over value lies above so many per cent
   abbrev passed : ℕ → ℕ
-  passed limit = pick (ltb (limit * p) (100 * q)) 1 0
+  passed limit = pick (beyond limit p q) 1 0
 
   yes-passed : (limit : ℕ) → limit * p < 100 * q → passed limit ≡ 1
   yes-passed limit h = rw (lt-ltb (limit * p) (100 * q) h) refl
@@ -39,7 +38,7 @@ module _ (p q : ℕ) where
   not-passed limit h = rw (le-ltb (limit * p) (100 * q) h) refl
 
   most-passed : (limit : ℕ) → passed limit ≤ 1
-  most-passed limit = go (ltb (limit * p) (100 * q))
+  most-passed limit = go (beyond limit p q)
     where
       go : (t : Bool) → pick t 1 0 ≤ 1
       go true = omega arith

@@ -4,10 +4,9 @@ use mathlib.Core.Bool.{Bool, true, false}
 use mathlib.Core.List.{List, [], _∷_}
 use Prim.Native.Nat.{ℕ, zero, suc, _+_, _*_, _^_, _≤_, _<_}
 use native.Mathlib.Omega.{arith}
-use lib.Dec.{ltb}
 use lib.ListN.{getD, replicate}
 use Rattle.exact.specs.Choice.{pick}
-use Rattle.fixed_point.specs.declared.Signed.{Signed}
+use Rattle.cell_report.specs.declared.Cell.{Cell}
 use Rattle.loan_charge.specs.CreditFactor.{count}
 use Rattle.loan_charge.specs.declared.Score.{Score}
 use Rattle.loan_charge.specs.declared.Score.the-variants.{Scored, Unscored}
@@ -16,7 +15,8 @@ use Rattle.line_forms.specs.declared.Loan.{Loan}
 use Rattle.line_forms.specs.declared.Content.{Content}
 use Rattle.line_forms.specs.declared.Content.the-variants.{Header as header, Loan as loan, Policy as policy, Derivative as derivative, Asset as asset}
 use Rattle.line_forms.specs.declared.Content.the-variants.{Amount as amount, NoForm}
-use Rattle.book_model.specs.Cells.{bandOf, ltvOf, ofLoan, noCells, addAt, withLoan, CellsBounded}
+use Rattle.book_model.specs.Ranges.{CellRanges}
+use Rattle.book_model.specs.Cells.{bandOf, beyond, ltvOf, ofLoan, noCells, addAt, withCell, CellsBounded}
 
 -- A line holds a loan, or whatever is asked of its loan is what stands for none.
 pub data Held : Content → Type 1 where
@@ -47,7 +47,7 @@ pub ltv-between : (p q : ℕ) → Between 1 5 (ltvOf p q)
 unfolding ltvOf count
 ltv-between p q = record {
   least = omega arith;
-  most = omega (arith, one (ltb (65 * p) (100 * q)), one (ltb (80 * p) (100 * q)), one (ltb (90 * p) (100 * q)), one (ltb (95 * p) (100 * q)));
+  most = omega (arith, one (beyond 65 p q), one (beyond 80 p q), one (beyond 90 p q), one (beyond 95 p q));
 }
   where
     one : (t : Bool) → pick t 1 0 ≤ 1
@@ -74,12 +74,11 @@ pub bounded-wider : (cells : List ℕ) {m n : ℕ} → m ≤ n → CellsBounded 
 bounded-wider cells h b = record { each = λ i. omega (arith, b .each i) }
 
 -- a loan is four additions
-pub loan-more : (cells : List ℕ) (place balance n : ℕ) (charge : Signed) → balance ≤ 300000000 → charge .plus ≤ 300000000 → charge .minus ≤ 300000000 →
-    CellsBounded cells (4 * n) → CellsBounded (withLoan cells place balance charge) (4 * (n + 1))
-unfolding withLoan
-loan-more cells place balance n charge h k m b =
+pub cell-more : (cells : List ℕ) (place n : ℕ) (x : Cell) → CellRanges x → CellsBounded cells (4 * n) → CellsBounded (withCell cells place x) (4 * (n + 1))
+unfolding withCell
+cell-more cells place n x s b =
     bounded-wider _ (omega arith)
-    (bounded-more _ _ (charge .minus) _ m (bounded-more _ _ (charge .plus) _ k (bounded-more _ _ balance _ h (bounded-more cells _ 1 (4 * n) (omega arith) b))))
+    (bounded-more _ _ _ _ (s .minus) (bounded-more _ _ _ _ (s .plus) (bounded-more _ _ _ _ (s .balance) (bounded-more cells _ _ (4 * n) (s .count) b))))
 
 zeros : (n i : ℕ) → _≡_ {A = ℕ} (getD (replicate n 0) i 0) 0
 zeros zero i = refl

@@ -16,6 +16,7 @@ use Rattle.line_forms.specs.declared.Header.{Header}
 use Rattle.line_forms.specs.declared.HeaderLine.{HeaderLine}
 use Rattle.line_forms.specs.declared.HeaderLine.the-variants.{Header as HeaderRead, Refusal as HeaderRefusal}
 use Rattle.line_forms.specs.declared.Line.{Line}
+use Rattle.line_forms.specs.declared.Loan.{Loan}
 use Rattle.line_forms.specs.declared.Line.the-variants.{Refusal}
 use Rattle.line_forms.specs.Claims.{lineRefusal, lineContent}
 use Rattle.figures.specs.declared.Counts.{Counts}
@@ -26,14 +27,14 @@ use Rattle.book_model.specs.declared.Book.{Book}
 use Rattle.book_model.specs.Accepted.{mostOther, loanBeyond, refusalFor}
 use Rattle.book_model.specs.Calls.{State, Answer, stateAt, termsIn, zeroHeader, emptyBook, openingFor, refusalIn, bookAfter, cellsAfter, feedingLine}
 use Rattle.book_model.specs.Calls.{SoundBook, Sound}
-use Rattle.book_model.specs.Cells.{loanBand, loanLtv, withLoan, cellsWith, CellsBounded}
+use Rattle.book_model.specs.Cells.{loanBand, loanLtv, loanCell, withCell, cellsWith, CellsBounded}
 use Rattle.book_model.specs.LineKinds.{LineKind, a-loan, another, refused, contentKind, kindOf, kindCounts, unscoredCount}
-use Rattle.book_model.specs.Ranges.{Ranged, HeaderRanges, RangedHeader}
-use Rattle.book_model.specs.Share.{loanNumbers, loanShare, share}
+use Rattle.book_model.specs.Ranges.{LoanRanges, CellRanges, Ranged, HeaderRanges, RangedHeader}
+use Rattle.book_model.specs.Share.{loanShare, share}
 use Rattle.book_model.specs.Terms.{Terms, under}
 use Rattle.cell_report.specs.CellReport.{placeOf}
 use Rattle.book_model.proofs.BoundedShares.{loan-bounded, share-bounded, counted}
-use Rattle.book_model.proofs.Cells.{Held, a-loan as held-loan, no-loan, held, bounded-wider, loan-more, none-bounded as no-cells-bounded}
+use Rattle.book_model.proofs.Cells.{Held, a-loan as held-loan, no-loan, held, bounded-wider, cell-more, none-bounded as no-cells-bounded}
 use Rattle.book_model.proofs.Near.{ChargeableTerms, rates-chargeable}
 
 -- Opening
@@ -134,6 +135,17 @@ room-line : (s : State) (l : Line) → SoundBook (s .book) → refusalIn s l ≡
     Room (s .book .header) (countsSum (s .book .sums .counts) (share (termsIn s) (lineContent l) .counts))
 room-line s l h e = rw (counted (termsIn s) (lineRefusal l) (lineContent l)) (room (termsIn s) (s .book .sums .counts) (kindOf l) (book-room h) e)
 
+pub cell-ranges : {t : Terms} → ChargeableTerms t → (l : Loan) → LoanRanges l → CellRanges (loanCell t l)
+unfolding loanShare kindCounts
+cell-ranges {t} g l r =
+    let k : Bounded (loanShare t l) = loan-bounded g l r in
+    record {
+      count = omega arith;
+      balance = omega (arith, r .balance-most);
+      plus = omega (arith, k .total-plus);
+      minus = omega (arith, k .total-minus);
+    }
+
 -- The table with what a line adds, and the loans counted with it.
 cells-more : {t : Terms} (cells : List ℕ) (n : ℕ) → ChargeableTerms t → (c : Content) → Ranged c → CellsBounded cells (4 * n) →
     CellsBounded (cellsWith t c cells) (4 * (n + share t c .counts .loans))
@@ -141,11 +153,8 @@ unfolding cellsWith share loanShare kindCounts
 cells-more {t} cells n g c r b = go (held c) r
   where
     go : {c : Content} → Held c → Ranged c → CellsBounded (cellsWith t c cells) (4 * (n + share t c .counts .loans))
-    go (held-loan l) r =
-        let k : Bounded (loanShare t l) = loan-bounded g l r in
-        loan-more cells _ (l .balance) n (loanNumbers t l .total) (omega (arith, r .balance-most)) (omega (arith, k .total-plus)) (omega (arith, k .total-minus)) b
-    go (no-loan e) r = rw (e (List ℕ) (λ l. withLoan cells (placeOf (loanBand l) (loanLtv l)) (l .balance) (loanNumbers t l .total)) cells)
-        (bounded-wider cells (omega arith) b)
+    go (held-loan l) r = cell-more cells _ n (loanCell t l) (cell-ranges g l r) b
+    go (no-loan e) r = rw (e (List ℕ) (λ l. withCell cells (placeOf (loanBand l) (loanLtv l)) (loanCell t l)) cells) (bounded-wider cells (omega arith) b)
 
 pub fed-sound : (s : State) (l : Line) → Sound s → Ranged (lineContent l) → Sound (feedingLine s l .state)
 unfolding feedingLine bookAfter cellsAfter

@@ -8,7 +8,7 @@ use lib.Dec.{eqb}
 use lib.ListN.{getD}
 use borrow.Author.Tests.{eqb-true, eqb-false, eq-eqb, ne-eqb}
 use Rattle.exact.specs.Choice.{pick}
-use Rattle.fixed_point.specs.declared.Signed.{Signed}
+use Rattle.cell_report.specs.declared.Cell.{Cell}
 use Rattle.line_forms.specs.declared.Loan.{Loan}
 use Rattle.line_forms.specs.declared.Content.{Content}
 use Rattle.line_forms.specs.declared.Content.the-variants.{Loan as loan}
@@ -23,7 +23,7 @@ use Rattle.cell_report.specs.CellReport.{placeOf, cellAt}
 use Rattle.cell_report.proofs.Laws.{cells-alike}
 use Rattle.book_model.specs.Accepted.{Accepted}
 use Rattle.book_model.specs.Calls.{cellsSize, cellsTextOf}
-use Rattle.book_model.specs.Cells.{loanBand, loanLtv, ofLoan}
+use Rattle.book_model.specs.Cells.{loanBand, loanLtv, ofLoan, loanCell}
 use Rattle.book_model.specs.Demand3.{figuresFor}
 use Rattle.book_model.specs.History.{opened, allFed, termsOf, acceptedOf, linesTaken, sumsOf}
 use Rattle.book_model.specs.LineKinds.{kindCounts}
@@ -61,60 +61,60 @@ not-at : (i at x : ℕ) → (i ≡ at → ⊥) → pick (eqb i at) x 0 ≡ 0
 not-at i at x e = rw (ne-eqb i at e) refl
 
 -- what a loan adds at the place i of a table, by where its cell's places begin
-module _ (i place balance : ℕ) (charge : Signed) where
-  adds-count : i ≡ place → placed i place balance charge ≡ 1
+module _ (i place : ℕ) (x : Cell) where
+  adds-count : i ≡ place → placed i place x ≡ x .count
   unfolding placed
   adds-count e =
       omega (
         arith,
-        yes-at i place 1 e,
-        not-at i (place + 1) balance (λ f. omega (arith, e, f)),
-        not-at i (place + 2) (charge .plus) (λ f. omega (arith, e, f)),
-        not-at i (place + 3) (charge .minus) (λ f. omega (arith, e, f)),
+        yes-at i place (x .count) e,
+        not-at i (place + 1) (x .balance) (λ f. omega (arith, e, f)),
+        not-at i (place + 2) (x .charge .plus) (λ f. omega (arith, e, f)),
+        not-at i (place + 3) (x .charge .minus) (λ f. omega (arith, e, f)),
       )
 
-  adds-balance : i ≡ place + 1 → placed i place balance charge ≡ balance
+  adds-balance : i ≡ place + 1 → placed i place x ≡ x .balance
   unfolding placed
   adds-balance e =
       omega (
         arith,
-        not-at i place 1 (λ f. omega (arith, e, f)),
-        yes-at i (place + 1) balance e,
-        not-at i (place + 2) (charge .plus) (λ f. omega (arith, e, f)),
-        not-at i (place + 3) (charge .minus) (λ f. omega (arith, e, f)),
+        not-at i place (x .count) (λ f. omega (arith, e, f)),
+        yes-at i (place + 1) (x .balance) e,
+        not-at i (place + 2) (x .charge .plus) (λ f. omega (arith, e, f)),
+        not-at i (place + 3) (x .charge .minus) (λ f. omega (arith, e, f)),
       )
 
-  adds-plus : i ≡ place + 2 → placed i place balance charge ≡ charge .plus
+  adds-plus : i ≡ place + 2 → placed i place x ≡ x .charge .plus
   unfolding placed
   adds-plus e =
       omega (
         arith,
-        not-at i place 1 (λ f. omega (arith, e, f)),
-        not-at i (place + 1) balance (λ f. omega (arith, e, f)),
-        yes-at i (place + 2) (charge .plus) e,
-        not-at i (place + 3) (charge .minus) (λ f. omega (arith, e, f)),
+        not-at i place (x .count) (λ f. omega (arith, e, f)),
+        not-at i (place + 1) (x .balance) (λ f. omega (arith, e, f)),
+        yes-at i (place + 2) (x .charge .plus) e,
+        not-at i (place + 3) (x .charge .minus) (λ f. omega (arith, e, f)),
       )
 
-  adds-minus : i ≡ place + 3 → placed i place balance charge ≡ charge .minus
+  adds-minus : i ≡ place + 3 → placed i place x ≡ x .charge .minus
   unfolding placed
   adds-minus e =
       omega (
         arith,
-        not-at i place 1 (λ f. omega (arith, e, f)),
-        not-at i (place + 1) balance (λ f. omega (arith, e, f)),
-        not-at i (place + 2) (charge .plus) (λ f. omega (arith, e, f)),
-        yes-at i (place + 3) (charge .minus) e,
+        not-at i place (x .count) (λ f. omega (arith, e, f)),
+        not-at i (place + 1) (x .balance) (λ f. omega (arith, e, f)),
+        not-at i (place + 2) (x .charge .plus) (λ f. omega (arith, e, f)),
+        yes-at i (place + 3) (x .charge .minus) e,
       )
 
-  adds-none : ((j : ℕ) → j < 4 → i ≡ place + j → ⊥) → placed i place balance charge ≡ 0
+  adds-none : ((j : ℕ) → j < 4 → i ≡ place + j → ⊥) → placed i place x ≡ 0
   unfolding placed
   adds-none h =
       omega (
         arith,
-        not-at i place 1 (λ f. h 0 (omega arith) (omega (arith, f))),
-        not-at i (place + 1) balance (h 1 (omega arith)),
-        not-at i (place + 2) (charge .plus) (h 2 (omega arith)),
-        not-at i (place + 3) (charge .minus) (h 3 (omega arith)),
+        not-at i place (x .count) (λ f. h 0 (omega arith) (omega (arith, f))),
+        not-at i (place + 1) (x .balance) (h 1 (omega arith)),
+        not-at i (place + 2) (x .charge .plus) (h 2 (omega arith)),
+        not-at i (place + 3) (x .charge .minus) (h 3 (omega arith)),
       )
 
 -- Two cells are the same where band and column are, and else have no place in common.
@@ -168,15 +168,15 @@ cell-adds s band ltv f = record {
 -- The place j of a cell sums f over the loans of its band and column, where f is what a loan adds there.
 module _ (t : Terms) (band ltv j : ℕ) (b : Between 1 12 band) (k : Between 1 5 ltv) (few : j < 4) (f : Loan → ℕ)
     (adds : (l : Loan) (i : ℕ) → i ≡ placeOf (loanBand l) (loanLtv l) + j →
-    placed i (placeOf (loanBand l) (loanLtv l)) (l .balance) (loanNumbers t l .total) ≡ f l) where
+    placed i (placeOf (loanBand l) (loanLtv l)) (loanCell t l) ≡ f l) where
   placed-loan : (l : Loan) (i : ℕ) → i ≡ placeOf band ltv + j →
-      placed i (placeOf (loanBand l) (loanLtv l)) (l .balance) (loanNumbers t l .total) ≡ inCell band ltv f (loan l)
+      placed i (placeOf (loanBand l) (loanLtv l)) (loanCell t l) ≡ inCell band ltv f (loan l)
   placed-loan l i e = go (eqb (loanBand l) band && eqb (loanLtv l) ltv) refl
     where
       go : (test : Bool) → (eqb (loanBand l) band && eqb (loanLtv l) ltv) ≡ test →
-          placed i (placeOf (loanBand l) (loanLtv l)) (l .balance) (loanNumbers t l .total) ≡ pick test (f l) 0
+          placed i (placeOf (loanBand l) (loanLtv l)) (loanCell t l) ≡ pick test (f l) 0
       go true s = adds l i (e ∙ ap (λ (x : ℕ). x + j) (sym (same-cell band ltv l b k s)))
-      go false s = adds-none i (placeOf (loanBand l) (loanLtv l)) (l .balance) (loanNumbers t l .total)
+      go false s = adds-none i (placeOf (loanBand l) (loanLtv l)) (loanCell t l)
           (λ m h g. other-cell band ltv l b k s j m few h (sym e ∙ g))
 
   placed-line : (c : Content) (i : ℕ) → i ≡ placeOf band ltv + j → placedBy t i c ≡ inCell band ltv f c
@@ -186,7 +186,7 @@ module _ (t : Terms) (band ltv j : ℕ) (b : Between 1 12 band) (k : Between 1 5
       go : {c : Content} → Held c → placedBy t i c ≡ inCell band ltv f c
       go (a-loan l) = placed-loan l i e
       go (no-loan n) =
-          n ℕ (λ l. placed i (placeOf (loanBand l) (loanLtv l)) (l .balance) (loanNumbers t l .total)) 0
+          n ℕ (λ l. placed i (placeOf (loanBand l) (loanLtv l)) (loanCell t l)) 0
           ∙ sym (n ℕ (λ l. pick (eqb (loanBand l) band && eqb (loanLtv l) ltv) (f l) 0) 0)
 
   cell-part : (kept : List (List ℕ)) (i : ℕ) → i ≡ placeOf band ltv + j → getD (cellsOf t kept) i 0 ≡ sumBy (inCell band ltv f) kept
@@ -200,14 +200,14 @@ cell-is t kept band ltv b c k m =
     let x : Between 1 12 band = record { least = b; most = c } in
     let y : Between 1 5 ltv = record { least = k; most = m } in
     λ i. record {
-      count = cell-part t band ltv 0 x y (omega arith) (λ l. 1) (λ l n e. adds-count n _ (l .balance) (loanNumbers t l .total) (omega (arith, e)))
+      count = cell-part t band ltv 0 x y (omega arith) (λ l. loanCell t l .count) (λ l n e. adds-count n _ (loanCell t l) (omega (arith, e)))
           kept (placeOf band ltv) (omega arith) i;
-      balance = cell-part t band ltv 1 x y (omega arith) (λ l. l .balance) (λ l n e. adds-balance n _ (l .balance) (loanNumbers t l .total) e)
+      balance = cell-part t band ltv 1 x y (omega arith) (λ l. loanCell t l .balance) (λ l n e. adds-balance n _ (loanCell t l) e)
           kept (placeOf band ltv + 1) refl i;
       charge = record {
-        plus = cell-part t band ltv 2 x y (omega arith) (λ l. loanNumbers t l .total .plus) (λ l n e. adds-plus n _ (l .balance) (loanNumbers t l .total) e)
+        plus = cell-part t band ltv 2 x y (omega arith) (λ l. loanCell t l .charge .plus) (λ l n e. adds-plus n _ (loanCell t l) e)
             kept (placeOf band ltv + 2) refl i;
-        minus = cell-part t band ltv 3 x y (omega arith) (λ l. loanNumbers t l .total .minus) (λ l n e. adds-minus n _ (l .balance) (loanNumbers t l .total) e)
+        minus = cell-part t band ltv 3 x y (omega arith) (λ l. loanCell t l .charge .minus) (λ l n e. adds-minus n _ (loanCell t l) e)
             kept (placeOf band ltv + 3) refl i;
       };
     }
@@ -324,12 +324,12 @@ unfolding cellFor figuresFor
 cell-sums t kept =
     let s = loan-sums t kept in
     record {
-      counts = all-cells (λ l. 1) kept ∙ s .loans;
+      counts = all-cells (λ l. loanCell t l .count) kept ∙ s .loans;
       charges =
           omega (
             arith,
-            all-cells (λ l. loanNumbers t l .total .plus) kept,
-            all-cells (λ l. loanNumbers t l .total .minus) kept,
+            all-cells (λ l. loanCell t l .charge .plus) kept,
+            all-cells (λ l. loanCell t l .charge .minus) kept,
             s .plus,
             s .minus,
           );
@@ -345,11 +345,11 @@ cells-written t a = rw (← cells-text t (a .kept)) (writes-of cellsSize t a (ce
 pub cells-permuted : (t : Terms) {kept others : List (List ℕ)} → List·Permᴰ kept others → cellsFor t kept ≡ cellsFor t others
 unfolding cellsFor cellFor
 cells-permuted t {kept} {others} p = cells-alike (λ band ltv a b c d i. record {
-  count = sum-permuted (inCell band ltv (λ l. 1)) p i;
-  balance = sum-permuted (inCell band ltv (λ l. l .balance)) p i;
+  count = sum-permuted (inCell band ltv (λ l. loanCell t l .count)) p i;
+  balance = sum-permuted (inCell band ltv (λ l. loanCell t l .balance)) p i;
   charge = record {
-    plus = sum-permuted (inCell band ltv (λ l. loanNumbers t l .total .plus)) p i;
-    minus = sum-permuted (inCell band ltv (λ l. loanNumbers t l .total .minus)) p i;
+    plus = sum-permuted (inCell band ltv (λ l. loanCell t l .charge .plus)) p i;
+    minus = sum-permuted (inCell band ltv (λ l. loanCell t l .charge .minus)) p i;
   };
 })
 

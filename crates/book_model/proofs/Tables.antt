@@ -10,14 +10,13 @@ use lib.ListN.{length, getD, length-set, replicate}
 use lib.Seq.{ext-getD, getD-set-same, getD-set-other}
 use borrow.Author.Tests.{eqb-true, eqb-false}
 use Rattle.exact.specs.Choice.{pick}
-use Rattle.fixed_point.specs.declared.Signed.{Signed}
 use Rattle.line_forms.specs.declared.Content.{Content}
 use Rattle.line_forms.specs.Claims.{lineContent}
 use Rattle.line_forms.specs.Readings.{lineOf}
+use Rattle.cell_report.specs.declared.Cell.{Cell}
 use Rattle.cell_report.specs.CellReport.{placeOf}
-use Rattle.book_model.specs.Cells.{loanBand, loanLtv, ofLoan, noCells, addAt, withLoan, cellsWith}
+use Rattle.book_model.specs.Cells.{loanBand, loanLtv, ofLoan, noCells, addAt, loanCell, withCell, cellsWith}
 use Rattle.book_model.specs.LoanTable.{sumBy}
-use Rattle.book_model.specs.Share.{loanNumbers}
 use Rattle.book_model.specs.Terms.{Terms}
 use Rattle.book_model.proofs.Cells.{Between, band-between, ltv-between, Held, a-loan, no-loan, held}
 
@@ -38,12 +37,13 @@ tabulate-at (suc n) k f zero h = ap f (omega arith)
 tabulate-at (suc n) k f (suc i) h = tabulate-at n (suc k) f i (le-of-suc-le-suc h) ∙ ap f (suc-add k i ∙ sym (add-suc k i))
 
 -- what a loan of the cell whose places begin at `place` adds at the place i
-unfoldable pub placed : (i place balance : ℕ) → Signed → ℕ
-placed i place balance charge =
-    pick (eqb i place) 1 0 + pick (eqb i (place + 1)) balance 0 + pick (eqb i (place + 2)) (charge .plus) 0 + pick (eqb i (place + 3)) (charge .minus) 0
+unfoldable pub placed : (i place : ℕ) → Cell → ℕ
+placed i place x =
+    pick (eqb i place) (x .count) 0 + pick (eqb i (place + 1)) (x .balance) 0 + pick (eqb i (place + 2)) (x .charge .plus) 0
+    + pick (eqb i (place + 3)) (x .charge .minus) 0
 
 unfoldable pub placedBy : Terms → ℕ → Content → ℕ
-placedBy t i c = ofLoan (λ l. placed i (placeOf (loanBand l) (loanLtv l)) (l .balance) (loanNumbers t l .total)) 0 c
+placedBy t i c = ofLoan (λ l. placed i (placeOf (loanBand l) (loanLtv l)) (loanCell t l)) 0 c
 
 -- the table of the lines taken
 unfoldable pub cellsOf : Terms → List (List ℕ) → List ℕ
@@ -76,25 +76,24 @@ add-at l at x i h = go (eqb i at) refl
     go true e = let f : i ≡ at = eqb-true i at e in rw f (getD-set-same l at (getD l at 0 + x) 0 h)
     go false e = rw (getD-set-other l at i (getD l at 0 + x) 0 (eqb-false i at e)) (omega arith)
 
-with-loan-length : (l : List ℕ) (place balance : ℕ) (charge : Signed) → length (withLoan l place balance charge) ≡ length l
-unfolding withLoan
-with-loan-length l place balance charge = simp length-set
+with-cell-length : (l : List ℕ) (place : ℕ) (x : Cell) → length (withCell l place x) ≡ length l
+unfolding withCell
+with-cell-length l place x = simp length-set
 
-with-loan-at : (l : List ℕ) (place balance : ℕ) (charge : Signed) (i : ℕ) → place + 4 ≤ length l →
-    getD (withLoan l place balance charge) i 0 ≡ getD l i 0 + placed i place balance charge
-unfolding withLoan placed
-with-loan-at l place balance charge i h =
-    let l1 = addAt l place 1 in
-    let l2 = addAt l1 (place + 1) balance in
-    let l3 = addAt l2 (place + 2) (charge .plus) in
+with-cell-at : (l : List ℕ) (place : ℕ) (x : Cell) (i : ℕ) → place + 4 ≤ length l → getD (withCell l place x) i 0 ≡ getD l i 0 + placed i place x
+unfolding withCell placed
+with-cell-at l place x i h =
+    let l1 = addAt l place (x .count) in
+    let l2 = addAt l1 (place + 1) (x .balance) in
+    let l3 = addAt l2 (place + 2) (x .charge .plus) in
     let n1 : length l1 ≡ length l = length-set l place _ in
     let n2 : length l2 ≡ length l1 = length-set l1 (place + 1) _ in
     let n3 : length l3 ≡ length l2 = length-set l2 (place + 2) _ in
     rw (
-      add-at l3 (place + 3) (charge .minus) i (omega arith),
-      add-at l2 (place + 2) (charge .plus) i (omega arith),
-      add-at l1 (place + 1) balance i (omega arith),
-      add-at l place 1 i (omega arith),
+      add-at l3 (place + 3) (x .charge .minus) i (omega arith),
+      add-at l2 (place + 2) (x .charge .plus) i (omega arith),
+      add-at l1 (place + 1) (x .balance) i (omega arith),
+      add-at l place (x .count) i (omega arith),
     )
     (omega arith)
 
@@ -118,16 +117,16 @@ module _ (t : Terms) (kept : List (List ℕ)) (s : List ℕ) where
           (length (cellsWith t c (cellsOf t kept)) ≡ 240)
           × ((i : ℕ) → getD (cellsWith t c (cellsOf t kept)) i 0 ≡ getD (cellsOf t kept) i 0 + placedBy t i c)
       go (a-loan l) = (
-        with-loan-length (cellsOf t kept) (placeOf (loanBand l) (loanLtv l)) (l .balance) (loanNumbers t l .total) ∙ cells-length t kept,
-        λ i. with-loan-at (cellsOf t kept) (placeOf (loanBand l) (loanLtv l)) (l .balance) (loanNumbers t l .total) i
+        with-cell-length (cellsOf t kept) (placeOf (loanBand l) (loanLtv l)) (loanCell t l) ∙ cells-length t kept,
+        λ i. with-cell-at (cellsOf t kept) (placeOf (loanBand l) (loanLtv l)) (loanCell t l) i
             (omega (arith, cells-length t kept, place-room (loanBand l) (loanLtv l) (band-between (l .score)) (ltv-between (l .value) (l .balance)))),
       )
       go (no-loan e) = (
-        rw (e (List ℕ) (λ l. withLoan (cellsOf t kept) (placeOf (loanBand l) (loanLtv l)) (l .balance) (loanNumbers t l .total)) (cellsOf t kept))
+        rw (e (List ℕ) (λ l. withCell (cellsOf t kept) (placeOf (loanBand l) (loanLtv l)) (loanCell t l)) (cellsOf t kept))
             (cells-length t kept),
         λ i. rw (
-          e (List ℕ) (λ l. withLoan (cellsOf t kept) (placeOf (loanBand l) (loanLtv l)) (l .balance) (loanNumbers t l .total)) (cellsOf t kept),
-          e ℕ (λ l. placed i (placeOf (loanBand l) (loanLtv l)) (l .balance) (loanNumbers t l .total)) 0,
+          e (List ℕ) (λ l. withCell (cellsOf t kept) (placeOf (loanBand l) (loanLtv l)) (loanCell t l)) (cellsOf t kept),
+          e ℕ (λ l. placed i (placeOf (loanBand l) (loanLtv l)) (loanCell t l)) 0,
         )
             (omega arith),
       )

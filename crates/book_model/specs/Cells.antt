@@ -1,9 +1,9 @@
 -- 02, L1: loans by score band and loan-to-value. Which cell a loan is of, and the table of all cells that a book keeps beside its sums.
 use Prim.Native.Nat.{ℕ, _+_, _*_, _≤_}
+use mathlib.Core.Bool.{Bool}
 use mathlib.Core.List.{List, [], _∷_}
 use lib.Dec.{ltb}
 use lib.ListN.{getD, set, replicate}
-use Rattle.fixed_point.specs.declared.Signed.{Signed}
 use Rattle.loan_charge.specs.CreditFactor.{count, band}
 use Rattle.loan_charge.specs.declared.Score.{Score}
 use Rattle.loan_charge.specs.declared.Score.the-variants.{Scored, Unscored}
@@ -11,6 +11,7 @@ use Rattle.line_forms.specs.declared.Loan.{Loan}
 use Rattle.line_forms.specs.declared.Content.{Content}
 use Rattle.line_forms.specs.declared.Content.the-variants.{Header as header, Loan as loan, Policy as policy, Derivative as derivative, Asset as asset}
 use Rattle.line_forms.specs.declared.Content.the-variants.{Amount as amount, NoForm}
+use Rattle.cell_report.specs.declared.Cell.{Cell}
 use Rattle.cell_report.specs.CellReport.{placeOf}
 use Rattle.book_model.specs.Share.{loanNumbers}
 use Rattle.book_model.specs.Terms.{Terms}
@@ -20,9 +21,13 @@ unfoldable pub bandOf : Score → ℕ
 bandOf (Scored number age) = band number + 1
 bandOf Unscored = 12
 
--- LTV: balance over property value up to 65%, 80%, 90%, 95%, and above. A limit itself belongs to the lower column. Value over balance is p / q.
+-- Whether balance over property value, of which value over balance is p / q, lies beyond so many per cent: a limit itself does not.
+abbrev pub beyond : (limit p q : ℕ) → Bool
+beyond limit p q = ltb (limit * p) (100 * q)
+
+-- LTV: up to 65%, 80%, 90%, 95%, and above
 unfoldable pub ltvOf : (p q : ℕ) → ℕ
-ltvOf p q = count (λ limit. ltb (limit * p) (100 * q)) (65 ∷ 80 ∷ 90 ∷ 95 ∷ []) + 1
+ltvOf p q = count (λ limit. beyond limit p q) (65 ∷ 80 ∷ 90 ∷ 95 ∷ []) + 1
 
 abbrev pub loanBand : Loan → ℕ
 loanBand l = bandOf (l .score)
@@ -48,15 +53,18 @@ noCells = replicate 240 0
 abbrev pub addAt : List ℕ → (at x : ℕ) → List ℕ
 addAt cells at x = set cells at (getD cells at 0 + x)
 
--- one loan more in the cell whose four places begin there
-unfoldable pub withLoan : List ℕ → (place balance : ℕ) → (charge : Signed) → List ℕ
-withLoan cells place balance charge =
-    addAt (addAt (addAt (addAt cells place 1) (place + 1) balance) (place + 2) (charge .plus)) (place + 3) (charge .minus)
+-- what a loan adds to its cell: itself, its balance, and its charge, which is base plus supplement
+abbrev pub loanCell : Terms → Loan → Cell
+loanCell t l = record { count = 1; balance = l .balance; charge = loanNumbers t l .total }
+
+-- so much more in the cell whose four places begin there
+unfoldable pub withCell : List ℕ → (place : ℕ) → Cell → List ℕ
+withCell cells place x =
+    addAt (addAt (addAt (addAt cells place (x .count)) (place + 1) (x .balance)) (place + 2) (x .charge .plus)) (place + 3) (x .charge .minus)
 
 -- the table with what the data of a line adds: only a loan does
 unfoldable pub cellsWith : Terms → Content → List ℕ → List ℕ
-cellsWith t c cells =
-    ofLoan (λ l. withLoan cells (placeOf (loanBand l) (loanLtv l)) (l .balance) (loanNumbers t l .total)) cells c
+cellsWith t c cells = ofLoan (λ l. withCell cells (placeOf (loanBand l) (loanLtv l)) (loanCell t l)) cells c
 
 -- Every place is bounded by a multiple of the additions: so many that no two need be told apart.
 pub record CellsBounded (cells : List ℕ) (additions : ℕ) : Type 0 where

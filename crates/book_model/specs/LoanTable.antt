@@ -18,10 +18,9 @@ use Rattle.cell_report.specs.declared.Cell.{Cell}
 use Rattle.cell_report.specs.CellReport.{cellsText, cellAt}
 use Rattle.book_model.specs.Accepted.{Accepted}
 use Rattle.book_model.specs.Calls.{State, opening, cellsSize, closingCells, closedCells}
-use Rattle.book_model.specs.Cells.{bandOf, ltvOf, loanBand, loanLtv, ofLoan}
+use Rattle.book_model.specs.Cells.{bandOf, ltvOf, loanBand, loanLtv, ofLoan, loanCell}
 use Rattle.book_model.specs.Demand3.{figuresFor, afterLines, Writes, SameTexts}
 use Rattle.book_model.specs.History.{opened, allFed, termsOf, acceptedOf, linesTaken}
-use Rattle.book_model.specs.Share.{loanNumbers}
 use Rattle.book_model.specs.Terms.{Terms}
 
 -- The bands of scores in inequalities: by the number alone, whatever its age.
@@ -53,14 +52,14 @@ pub record CellAdds (s : List ℕ) (band ltv : ℕ) (f : Loan → ℕ) : Type 0 
   pub member : (l : Loan) → ShowsInRange s (loan l) → loanBand l ≡ band → loanLtv l ≡ ltv → inCell band ltv f (lineContent (lineOf s)) ≡ f l
   pub other : ((l : Loan) → ShowsInRange s (loan l) → loanBand l ≡ band → loanLtv l ≡ ltv → ⊥) → inCell band ltv f (lineContent (lineOf s)) ≡ 0
 
--- Each cell counts and sums exactly the loans taken of its band and column. A loan's charge is its base plus supplement.
+-- Each cell counts and sums exactly the loans taken of its band and column.
 unfoldable pub cellFor : Terms → List (List ℕ) → (band ltv : ℕ) → Cell
 cellFor t kept band ltv = record {
-  count = sumBy (inCell band ltv (λ l. 1)) kept;
-  balance = sumBy (inCell band ltv (λ l. l .balance)) kept;
+  count = sumBy (inCell band ltv (λ l. loanCell t l .count)) kept;
+  balance = sumBy (inCell band ltv (λ l. loanCell t l .balance)) kept;
   charge = record {
-    plus = sumBy (inCell band ltv (λ l. loanNumbers t l .total .plus)) kept;
-    minus = sumBy (inCell band ltv (λ l. loanNumbers t l .total .minus)) kept;
+    plus = sumBy (inCell band ltv (λ l. loanCell t l .charge .plus)) kept;
+    minus = sumBy (inCell band ltv (λ l. loanCell t l .charge .minus)) kept;
   };
 }
 

@@ -1,5 +1,5 @@
 -- What is known of the numbers of a line or header that is read: the ranges of document 01, as far as the book's code needs them.
--- Nothing here has to be believed: proofs/Ranged.antt has it of every line, from the laws of line reading.
+-- Nothing here has to be believed: proofs/Ranged.antt has it of every line, from the laws of line reading, and proofs/Feeding.antt of what a loan adds.
 use Prim.Native.Nat.{_≤_}
 use Rattle.line_forms.specs.declared.Header.{Header}
 use Rattle.line_forms.specs.declared.Loan.{Loan}
@@ -12,6 +12,7 @@ use Rattle.line_forms.specs.declared.Content.the-variants.{Header as header, Lo
 use Rattle.line_forms.specs.declared.Content.the-variants.{Amount as amount, NoForm}
 use Rattle.line_forms.specs.declared.HeaderLine.{HeaderLine}
 use Rattle.line_forms.specs.declared.HeaderLine.the-variants.{Header as HeaderRead, Refusal as HeaderRefusal}
+use Rattle.cell_report.specs.declared.Cell.{Cell}
 
 pub record LoanRanges (l : Loan) : Type 0 where
   pub balance-least : 1 ≤ l .balance
@@ -45,6 +46,13 @@ Ranged (derivative d) = DerivativeRanges d
 Ranged (asset a) = AssetRanges a
 Ranged (amount a) = AmountRanges a
 Ranged NoForm = Unit {0}
+
+-- What a loan adds to its cell.
+pub record CellRanges (x : Cell) : Type 0 where
+  pub count : x .count ≤ 300000000
+  pub balance : x .balance ≤ 300000000
+  pub plus : x .charge .plus ≤ 300000000
+  pub minus : x .charge .minus ≤ 300000000
 
 -- A header that is read.
 pub record HeaderRanges (h : Header) : Type 0 where

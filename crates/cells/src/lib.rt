@@ -5,10 +5,10 @@ ghost use lib.Dec.{ltb};
 ghost use lib.ListN.{getD};
 ghost use Rattle.exact.specs.Choice.{pick};
 ghost use Rattle.cell_report.specs.CellReport.{placeOf};
-ghost use Rattle.book_model.specs.Cells.{bandOf, ltvOf, loanBand, loanLtv, addAt, withLoan, noCells, CellsBounded};
-ghost use Rattle.book_model.specs.Ranges.{LoanRanges};
+ghost use Rattle.book_model.specs.Cells.{bandOf, ltvOf, loanBand, loanLtv, addAt, withCell, noCells, CellsBounded};
+ghost use Rattle.book_model.specs.Ranges.{LoanRanges, CellRanges};
+use cell_report::Cell;
 use cell_report::Cells;
-use fixed_point::Signed;
 use line_forms::Loan;
 use loan_charge::Score;
 
@@ -61,13 +61,14 @@ fn add_at(cells: &mut Cells, at: usize, x: u64)
     cells[at] = cells[at] + x;
 }
 
-// One loan more in the cell whose places begin there.
-pub fn add_loan(cells: &mut Cells, place: usize, balance: u64, charge: Signed)
-    requires { ⌜ (place ≤ 236) × CellsBounded (now cells) 4000000 × (balance ≤ 300000000) × (charge .plus ≤ 300000000) × (charge .minus ≤ 300000000) ⌝ }
-    ensures { λ _. ⌜ now (cells .exit) ≡ withLoan (now (cells .entry)) place balance charge ⌝ }
+// So much more in the cell whose places begin there.
+pub fn add_cell(cells: &mut Cells, place: usize, x: Cell)
+    requires { ⌜ (place ≤ 236) × CellsBounded (now cells) 4000000 × CellRanges x ⌝ }
+    ensures { λ _. ⌜ now (cells .exit) ≡ withCell (now (cells .entry)) place x ⌝ }
 {
-    add_at(cells, place, 1);
-    add_at(cells, place + 1, balance);
+    let charge = x.charge;
+    add_at(cells, place, x.count);
+    add_at(cells, place + 1, x.balance);
     add_at(cells, place + 2, charge.plus);
     add_at(cells, place + 3, charge.minus);
 }

@@ -13,11 +13,11 @@ returns : tie.Need-returns
 unfolding stateFor
 returns c = loan-refused (stateFor (c .before .before .before .before)) (c .before .before .before .before .args .l) (c .before .loan-beyond .ensures) (c .if1 .taken)
 
-add-loan-requires : tie.Need-add-loan-requires
+add-cell-requires : tie.Need-add-cell-requires
 unfolding stateFor
-add-loan-requires c κs =
+add-cell-requires c κs =
     let k = cell-asks (stateFor (c .before .before .before .before .before .before .before .before)) (c .before .before .before .before .before .before .before .before .args .l) (c .before .before .before .before .before .loan-beyond .ensures) (c .before .before .before .before .if1 .left) (c .before .before .loan .ensures) (c .before .before .before .before .before .before .before .before .pre .0) (c .before .before .before .before .before .before .before .before .pre .1) in
-    (c .before .before .before .place-of .ensures .1, k .0, k .1, k .2, k .3)
+    (c .before .before .before .place-of .ensures .1, k .0, k .1)
 
 with-share-requires : tie.Need-with-share-requires
 unfolding stateFor
@@ -28,7 +28,7 @@ returns-2 : tie.Need-returns-2
 unfolding stateFor
 returns-2 c =
     loan-taken (stateFor (c .before .before .before .before .before .before .before .before .before .before)) (c .before .before .before .before .before .before .before .before .before .before .args .l) (c .before .before .before .before .before .before .before .loan-beyond .ensures) (c .before .before .before .before .before .before .if1 .left) (c .before .before .before .before .loan .ensures) (c .before .before .before .before .before .place-of .ensures .0)
-    (c .with-share .ensures) (c .before .add-loan .ensures)
+    (c .with-share .ensures) (c .before .add-cell .ensures)
 
 pub add-loan-spec : {M : Type 1} → statement M
 add-loan-spec =
@@ -38,6 +38,6 @@ add-loan-spec =
     returns
     (λ c κs. search needs)
     (λ c κs. search needs)
-    add-loan-requires
+    add-cell-requires
     with-share-requires
     returns-2)
