@@ -5,7 +5,7 @@ use Prim.Native.Nat.{ℕ, _+_, _*_, _-_, _/_, _≤_, _<_, min}
 use native.Mathlib.Decide.{decLe}
 use native.Mathlib.Omega.{arith}
 use mathlib.Core.Bool.{Bool, true, false}
-use borrow.Author.Tests.{lt-ltb, le-ltb}
+use borrow.Author.Tests.{ltb-true, ltb-false}
 use Rattle.exact.specs.Choice.{pick}
 use Rattle.loan_charge.specs.Computation.{limits, reachedOf}
 use Rattle.loan_charge.specs.CreditFactor.{count, band}
@@ -32,10 +32,18 @@ module _ (p q : ℕ) where
   passed limit = pick (beyond limit p q) 1 0
 
   yes-passed : (limit : ℕ) → limit * p < 100 * q → passed limit ≡ 1
-  yes-passed limit h = rw (lt-ltb (limit * p) (100 * q) h) refl
+  yes-passed limit h = go (beyond limit p q) refl
+    where
+      go : (t : Bool) → beyond limit p q ≡ t → _≡_ {A = ℕ} (pick t 1 0) 1
+      go true e = refl
+      go false e = absurd (omega (arith, h, ltb-false (limit * p) (100 * q) e))
 
   not-passed : (limit : ℕ) → 100 * q ≤ limit * p → passed limit ≡ 0
-  not-passed limit h = rw (le-ltb (limit * p) (100 * q) h) refl
+  not-passed limit h = go (beyond limit p q) refl
+    where
+      go : (t : Bool) → beyond limit p q ≡ t → _≡_ {A = ℕ} (pick t 1 0) 0
+      go true e = absurd (omega (arith, h, ltb-true (limit * p) (100 * q) e))
+      go false e = refl
 
   most-passed : (limit : ℕ) → passed limit ≤ 1
   most-passed limit = go (beyond limit p q)
