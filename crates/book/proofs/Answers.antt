@@ -28,13 +28,13 @@ use Rattle.book_model.specs.Calls.{State, Answer, stateAt, termsIn, openedOf, f
 use Rattle.book_model.specs.Calls.{tableWith, cellsAfter, feedingLine, feeding, SoundBook, Sound}
 use Rattle.book_model.specs.Cells.{loanBand, loanLtv, noCells, withCell, cellsWith, CellsBounded}
 use Rattle.book_model.specs.LineKinds.{a-loan, another, contentKind, kindOf, kindCounts}
-use Rattle.book_model.specs.Ranges.{LoanRanges, CellRanges, Ranged}
+use Rattle.book_model.specs.Ranges.{LoanRanges, Ranged}
 use Rattle.book_model.specs.Share.{share, loanShare}
 use Rattle.book_model.specs.Steps.{answerWith}
 use Rattle.book_model.specs.Terms.{under}
-use Rattle.book_model.proofs.BoundedShares.{counted}
+use Rattle.book_model.proofs.BoundedShares.{loan-bounded, counted}
 use Rattle.book_model.proofs.Cells.{bounded-wider}
-use Rattle.book_model.proofs.Feeding.{room, book-room, asks, line-bounded, cell-ranges, fed-refused, fed-sound, opening-sound}
+use Rattle.book_model.proofs.Feeding.{room, book-room, asks, line-bounded, fed-refused, fed-sound, opening-sound}
 use Rattle.book_model.proofs.Near.{rates-chargeable}
 use Rattle.book_model.proofs.Ranged.{ranged, ranged-header}
 
@@ -159,11 +159,12 @@ module _ (s : State) (l : Loan) {beyond : Bool} (test : beyond ≡ loanBeyond (s
         (room (termsIn s) (s .book .sums .counts) (a-loan (l .score)) (book-room (h .book)) (rw f refl)))
 
     -- what adding it to its cell asks
-    pub cell-asks : Sound s → LoanRanges l → CellsBounded (s .cells) 4000000 × CellRanges (record { count = 1; balance = l .balance; charge = x .total })
-    unfolding loanShare
+    pub cell-asks : Sound s → LoanRanges l → CellsBounded (s .cells) 4000000 × Bounded x × (x .counts .loans ≡ 1)
+    unfolding loanShare kindCounts
     cell-asks h r = (
       bounded-wider (s .cells) (omega (arith, h .book .loans, h .book .header-loans)) (h .cells),
-      rw k (cell-ranges (rates-chargeable (termsIn s) (h .rates)) l r),
+      rw k (loan-bounded (rates-chargeable (termsIn s) (h .rates)) l r),
+      rw k refl,
     )
 
     pub loan-taken : {place : ℕ} → place ≡ placeOf (loanBand l) (loanLtv l) → {r : Fed} {cells : List ℕ} → r ≡ answerWith 0 (s .book) x →

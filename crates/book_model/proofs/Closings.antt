@@ -94,6 +94,15 @@ only-0 false true = (λ e. absurd (omega (arith, e)), λ e. absurd (true≢false
 only-0 false false = (λ e. (refl, refl), λ e. refl)
 
 module _ (least : ℕ) (h : Header) (c : Counts) (size : ℕ) where
+  pub gives-6 : tooFew h c ≡ true → 6 ≡ closingRefusal least h c size
+  gives-6 e = rw e refl
+
+  pub gives-9 : tooFew h c ≡ false → size < least → 9 ≡ closingRefusal least h c size
+  gives-9 e k = rw (e, lt-ltb size least k) refl
+
+  pub gives-0 : tooFew h c ≡ false → least ≤ size → 0 ≡ closingRefusal least h c size
+  gives-0 e k = rw (e, le-ltb size least k) refl
+
   pub closes-6 : (closingRefusal least h c size ≡ 6) ↔ ((c .loans < h .loans) ⊎ (c .unscored < h .unscored))
   closes-6 = (λ e. few h c .0 (only-6 (tooFew h c) (ltb size least) .0 e), λ k. only-6 (tooFew h c) (ltb size least) .1 (few h c .1 k))
 

@@ -1,4 +1,5 @@
 use denote.Ref.{now}
+use native.Mathlib.Omega.{arith}
 use Rattle.book_model.specs.Calls.{State, stateAt}
 use Rattle.book.proofs.Answers.{loan-refused, loan-asks, cell-asks, loan-taken}
 use borrow.Author.Needs.{needs}
@@ -16,8 +17,18 @@ returns c = loan-refused (stateFor (c .before .before .before .before)) (c .befo
 add-cell-requires : tie.Need-add-cell-requires
 unfolding stateFor
 add-cell-requires c κs =
-    let k = cell-asks (stateFor (c .before .before .before .before .before .before .before .before)) (c .before .before .before .before .before .before .before .before .args .l) (c .before .before .before .before .before .loan-beyond .ensures) (c .before .before .before .before .if1 .left) (c .before .before .loan .ensures) (c .before .before .before .before .before .before .before .before .pre .0) (c .before .before .before .before .before .before .before .before .pre .1) in
-    (c .before .before .before .place-of .ensures .1, k .0, k .1)
+    let start = c .before .before .before .before .before .before .before .before in
+    let k = cell-asks (stateFor start) (start .args .l) (c .before .before .before .before .before .loan-beyond .ensures) (c .before .before .before .before .if1 .left) (c .before .before .loan .ensures) (start .pre .0) (start .pre .1) in
+    let b = k .1 in (
+      c .before .before .before .place-of .ensures .1,
+      k .0,
+      record {
+        count = omega arith;
+        balance = omega (arith, start .pre .1 .balance-most, start .pre .0 .book .header-loans);
+        plus = omega (arith, b .total-plus, b .supplement-plus, k .2);
+        minus = omega (arith, b .total-minus, b .supplement-minus, k .2);
+      },
+    )
 
 with-share-requires : tie.Need-with-share-requires
 unfolding stateFor
