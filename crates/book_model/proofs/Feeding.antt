@@ -181,7 +181,8 @@ fed-refused s n = go (eqb n 0)
     go : (test : Bool) → _≡_ {A = Answer} (record { refusal = n; state = s })
         (record {
           refusal = n;
-          state = stateAt (pick test (record { header = s .book .header; sums = plus (s .book .sums) noSums }) (s .book)) (s .rates) (pick test (s .cells) (s .cells));
+          state = stateAt (pick test (record { header = s .book .header; sums = plus (s .book .sums) noSums }) (s .book)) (s .rates)
+              (pick test (s .cells) (s .cells));
         })
     go true = λ i. record { refusal = n; state = stateAt (record { header = s .book .header; sums = sym (plus-none (s .book .sums)) i }) (s .rates) (s .cells) }
     go false = refl

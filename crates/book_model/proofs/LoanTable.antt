@@ -135,8 +135,10 @@ module _ (band ltv : ℕ) (l : Loan) (b : Between 1 12 band) (k : Between 1 5 lt
   other-cell e i j h m f =
       let x = band-between (l .score) in
       let y = ltv-between (l .value) (l .balance) in
-      let same : (loanBand l ≡ band) × (loanLtv l ≡ ltv) =
-      (omega (arith, f, b .least, b .most, k .least, k .most, x .least, x .most, y .least, y .most), omega (arith, f, b .least, b .most, k .least, k .most, x .least, x .most, y .least, y .most)) in
+      let same : (loanBand l ≡ band) × (loanLtv l ≡ ltv) = (
+        omega (arith, f, b .least, b .most, k .least, k .most, x .least, x .most, y .least, y .most),
+        omega (arith, f, b .least, b .most, k .least, k .most, x .least, x .most, y .least, y .most),
+      ) in
       true≢false (sym (rw (eq-eqb (loanBand l) band (same .0), eq-eqb (loanLtv l) ltv (same .1)) refl) ∙ e)
 
 -- What a line adds to a cell, by its bytes

@@ -121,7 +121,8 @@ pub whole : (asked : Bool) (input : List ℕ) → printedFor asked (ended (withB
 whole asked input = ap (printedFor asked) (bytes-lines input atStart []) ∙ start-lines asked (linesOf input)
 
 -- After a refusal the rest of the input changes nothing.
-refused-stays : (asked : Bool) (input : List ℕ) (s : Reading) → (s .stage .refusal ≡ 0 → ⊥) → printedFor asked (ended (withBytes s input)) ≡ printedFor asked (s .stage)
+refused-stays : (asked : Bool) (input : List ℕ) (s : Reading) → (s .stage .refusal ≡ 0 → ⊥) →
+    printedFor asked (ended (withBytes s input)) ≡ printedFor asked (s .stage)
 unfolding withBytes
 refused-stays asked [] s h = ap (printedFor asked) (refused-ended (s .stage) (s .tail) h)
 refused-stays asked (byte ∷ bytes) s h =
@@ -171,7 +172,8 @@ held-few (byte ∷ bytes) s h = held-few bytes (withByte s byte) (go (eqb byte n
     go true = omega arith
     go false = rw (length-take 241 (s .tail ++ (byte ∷ []))) (omega arith)
 
-pub settled : (asked : Bool) (s : Reading) → length (s .tail) ≤ 241 → Settled s → (more : List ℕ) → printedFor asked (ended (withBytes s more)) ≡ printedFor asked (ended s)
+pub settled : (asked : Bool) (s : Reading) → length (s .tail) ≤ 241 → Settled s → (more : List ℕ) →
+    printedFor asked (ended (withBytes s more)) ≡ printedFor asked (ended s)
 settled asked s k h more = ⊎-elim (λ r. refused-stays asked more s r ∙ sym (ap (printedFor asked) (refused-ended (s .stage) (s .tail) r)))
     (λ l. long-stays asked more (s .stage) (s .tail) l k ∙ sym (ap (printedFor asked) (ended-long (s .stage) (s .tail) l))) h
 

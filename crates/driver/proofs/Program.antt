@@ -69,14 +69,16 @@ fed-taken header before line z =
 abbrev atEnd : Bool → Terms → List (List ℕ) → ℕ → List ℕ
 atEnd asked t lines number = pick (tooFew (t .header) (countsIn lines)) (refusalLine 6 number) (withTable asked (reportFor t lines) (cellsFor t lines))
 
-end-is : (asked : Bool) (header : List ℕ) (lines : List (List ℕ)) (number : ℕ) → printedAtEnd asked (stateFor header lines) number ≡ atEnd asked (termsOf (opened header)) lines number
+end-is : (asked : Bool) (header : List ℕ) (lines : List (List ℕ)) (number : ℕ) →
+    printedAtEnd asked (stateFor header lines) number ≡ atEnd asked (termsOf (opened header)) lines number
 unfolding printedAtEnd stateFor
 end-is asked header lines number =
     let t : Terms = termsOf (opened header) in
     ap₂ (λ (c : Counts) (r : List ℕ). pick (tooFew (t .header) c) (refusalLine 6 number) r) (counts t lines)
     (ap₂ (withTable asked) (report-is t lines) (cells-text t lines))
 
-at-end : (asked : Bool) (header : List ℕ) (lines : List (List ℕ)) → AllTaken header lines → Outcome asked (header ∷ lines) (atEnd asked (termsOf (opened header)) lines (2 + length lines))
+at-end : (asked : Bool) (header : List ℕ) (lines : List (List ℕ)) → AllTaken header lines →
+    Outcome asked (header ∷ lines) (atEnd asked (termsOf (opened header)) lines (2 + length lines))
 at-end asked header lines h = go (tooFew (termsOf (opened header) .header) (countsIn lines)) refl
   where
     go : (b : Bool) → tooFew (termsOf (opened header) .header) (countsIn lines) ≡ b →
@@ -89,7 +91,8 @@ at-end asked header lines h = go (tooFew (termsOf (opened header) .header) (coun
         (cell-sums (termsOf (opened header)) lines)
 
 -- and of lines after those
-feeding-on : (asked : Bool) (header : List ℕ) (before : List (List ℕ)) (lines : List (List ℕ)) → AllTaken header before → (number : ℕ) → number ≡ 2 + length before →
+feeding-on : (asked : Bool) (header : List ℕ) (before : List (List ℕ)) (lines : List (List ℕ)) → AllTaken header before →
+    (number : ℕ) → number ≡ 2 + length before →
     Outcome asked (header ∷ (before ++ lines)) (printedFeeding asked (stateFor header before) number lines)
 unfolding printedFeeding stateFor
 feeding-on asked header before [] h number e = rw (append-nil before, e, end-is asked header before (2 + length before)) (at-end asked header before h)
@@ -216,7 +219,8 @@ same-text asked t {lines} {others} p =
 alike : (asked : Bool) (header : List ℕ) (lines others : List (List ℕ)) (x y : List ℕ) → linesOf x ≡ header ∷ lines → linesOf y ≡ header ∷ others →
     Reports header lines → Reports header others → List·Permᴰ lines others → printed asked x ≡ printed asked y
 alike asked header lines others x y e f r q p =
-    ap (printedLines asked) e ∙ reported asked header lines r ∙ same-text asked (termsOf (opened header)) p ∙ sym (reported asked header others q) ∙ sym (ap (printedLines asked) f)
+    ap (printedLines asked) e ∙ reported asked header lines r ∙ same-text asked (termsOf (opened header)) p ∙ sym (reported asked header others q)
+    ∙ sym (ap (printedLines asked) f)
 
 -- document 01's worked input
 worked-reports : Reports workedHeader workedLines

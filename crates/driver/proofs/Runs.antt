@@ -115,7 +115,8 @@ module _ (run : Run) (rates cells chunk : List ℕ) (running : Running run rates
       )
 
   -- the held line ends in the chunk, and lines follow
-  pub line-and-more : {q : Run} {after-cells : List ℕ} (next : Stage) (n : ℕ) (tail : List ℕ) → take n tail ≡ withTail (take (run .held) (run .tail)) (take (end - 0) chunk) →
+  pub line-and-more : {q : Run} {after-cells : List ℕ} (next : Stage) (n : ℕ) (tail : List ℕ) →
+      take n tail ≡ withTail (take (run .held) (run .tail)) (take (end - 0) chunk) →
       end < length chunk →
       next ≡ withLine (stageAt (run .progress) rates cells) (take n tail) →
       Reads q rates after-cells (withBytes (record { stage = next; tail = [] }) (take (length chunk - (end + 1)) (drop (end + 1) chunk)))
@@ -126,7 +127,8 @@ module _ (run : Run) (rates cells chunk : List ℕ) (running : Running run rates
       let d : length (drop (end + 1) chunk) ≡ length chunk - (end + 1) = length-drop (end + 1) chunk in (
         r .0
             ∙ ap (withBytes (record { stage = next; tail = [] })) (take-all (length chunk - (end + 1)) (drop (end + 1) chunk) (omega arith))
-            ∙ ap (λ (x : Stage). withBytes (record { stage = x; tail = [] }) (drop (end + 1) chunk)) (e ∙ ap (withLine (stageAt (run .progress) rates cells)) (k .0))
+            ∙ ap (λ (x : Stage). withBytes (record { stage = x; tail = [] }) (drop (end + 1) chunk))
+            (e ∙ ap (withLine (stageAt (run .progress) rates cells)) (k .0))
             ∙ ap (λ (x : Reading). withBytes x (drop (end + 1) chunk))
             (sym (first-line (stageAt (run .progress) rates cells) (take (run .held) (run .tail)) chunk few end first h))
             ∙ sym (bytes-append (readingOf run rates cells) (take (end + 1) chunk) (drop (end + 1) chunk))

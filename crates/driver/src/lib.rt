@@ -198,8 +198,8 @@ fn end_held(
     rates: &Rates,
     cells: &mut Cells,
 ) -> Progress
-    requires { ⌜ Sound (stateAt (p .book) (now rates) (now cells)) × (p .number + 242 < 2 ^ 63) × (now exps ≡ exponentials) × (now rates ≡ builtInRates) × (held ≤ mostHeld)
-        × (length (now tail) ≡ 242) × (unbroken (take held (now tail)) ≡ true) ⌝ }
+    requires { ⌜ Sound (stateAt (p .book) (now rates) (now cells)) × (p .number + 242 < 2 ^ 63) × (now exps ≡ exponentials) × (now rates ≡ builtInRates)
+        × (held ≤ mostHeld) × (length (now tail) ≡ 242) × (unbroken (take held (now tail)) ≡ true) ⌝ }
     ensures equation { λ r.
         ⌜ stageAt r (now (rates .entry)) (now (cells .exit)) ≡
         withLine (stageAt p (now (rates .entry)) (now (cells .entry))) (take held (now (tail .entry))) ⌝ }

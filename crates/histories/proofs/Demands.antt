@@ -137,7 +137,8 @@ written-by w {buffer} (e, f) z =
 
 -- and that two of them wrote the same
 same-by : (answer other : ℕ → Closed) (left left-other : List ℕ → List ℕ) → SameTexts answer left other left-other →
-    (x y : List ℕ) {after-x after-y : List ℕ} {r q : Closed} → (r ≡ answer (length x)) × (after-x ≡ left x) → (q ≡ other (length y)) × (after-y ≡ left-other y) →
+    (x y : List ℕ) {after-x after-y : List ℕ} {r q : Closed} → (r ≡ answer (length x)) × (after-x ≡ left x) →
+    (q ≡ other (length y)) × (after-y ≡ left-other y) →
     r .refusal ≡ 0 → q .refusal ≡ 0 → (r .length ≡ q .length) × (take (r .length) after-x ≡ take (q .length) after-y)
 same-by answer other left left-other t x y (e, f) (g, h) z w =
     rw (e, g, f, h) (t x y (sym (ap (λ (c : Closed). c .refusal) e) ∙ z) (sym (ap (λ (c : Closed). c .refusal) g) ∙ w))

@@ -12,13 +12,16 @@ stateFor c = stateAt (c .args .b) (now (c .args .rates)) (now (c .args .cells))
 
 returns : tie.Need-returns
 unfolding stateFor
-returns c = loan-refused (stateFor (c .before .before .before .before)) (c .before .before .before .before .args .l) (c .before .loan-beyond .ensures) (c .if1 .taken)
+returns c =
+    let start = c .before .before .before .before in
+    loan-refused (stateFor start) (start .args .l) (c .before .loan-beyond .ensures) (c .if1 .taken)
 
 add-cell-requires : tie.Need-add-cell-requires
 unfolding stateFor
 add-cell-requires c κs =
     let start = c .before .before .before .before .before .before .before .before in
-    let k = cell-asks (stateFor start) (start .args .l) (c .before .before .before .before .before .loan-beyond .ensures) (c .before .before .before .before .if1 .left) (c .before .before .loan .ensures) (start .pre .0) (start .pre .1) in
+    let k = cell-asks (stateFor start) (start .args .l) (c .before .before .before .before .before .loan-beyond .ensures)
+    (c .before .before .before .before .if1 .left) (c .before .before .loan .ensures) (start .pre .0) (start .pre .1) in
     let b = k .1 in (
       c .before .before .before .place-of .ensures .1,
       k .0,
@@ -33,12 +36,17 @@ add-cell-requires c κs =
 with-share-requires : tie.Need-with-share-requires
 unfolding stateFor
 with-share-requires c κs =
-    loan-asks (stateFor (c .before .before .before .before .before .before .before .before .before)) (c .before .before .before .before .before .before .before .before .before .args .l) (c .before .before .before .before .before .before .loan-beyond .ensures) (c .before .before .before .before .before .if1 .left) (c .before .before .before .loan .ensures) (c .before .before .before .before .before .before .before .before .before .pre .0) (c .before .before .before .before .before .before .before .before .before .pre .1)
+    let start = c .before .before .before .before .before .before .before .before .before in
+    loan-asks (stateFor start) (start .args .l) (c .before .before .before .before .before .before .loan-beyond .ensures)
+    (c .before .before .before .before .before .if1 .left) (c .before .before .before .loan .ensures) (start .pre .0) (start .pre .1)
 
 returns-2 : tie.Need-returns-2
 unfolding stateFor
 returns-2 c =
-    loan-taken (stateFor (c .before .before .before .before .before .before .before .before .before .before)) (c .before .before .before .before .before .before .before .before .before .before .args .l) (c .before .before .before .before .before .before .before .loan-beyond .ensures) (c .before .before .before .before .before .before .if1 .left) (c .before .before .before .before .loan .ensures) (c .before .before .before .before .before .place-of .ensures .0)
+    let start = c .before .before .before .before .before .before .before .before .before .before in
+    let place = c .before .before .before .before .before .place-of in
+    loan-taken (stateFor start) (start .args .l) (c .before .before .before .before .before .before .before .loan-beyond .ensures)
+    (c .before .before .before .before .before .before .if1 .left) (c .before .before .before .before .loan .ensures) (place .ensures .0)
     (c .with-share .ensures) (c .before .add-cell .ensures)
 
 pub add-loan-spec : {M : Type 1} → statement M

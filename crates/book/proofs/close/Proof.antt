@@ -12,11 +12,15 @@ returns c = refused reportSize _ _ _ (c .before .closing-refusal .ensures) (c .i
 
 put-report-requires : tie.Need-put-report-requires
 put-report-requires c κs =
-    let a = c .before .before .before .before .args in
-    (c .before .before .before .before .pre, closes-0 reportSize (a .b .header) (a .b .sums .counts) (length (now (a .out))) .0 (sym (c .before .before .closing-refusal .ensures) ∙ c .before .if1 .left) .2)
+    let a = c .before .before .before .before .args in (
+      c .before .before .before .before .pre,
+      closes-0 reportSize (a .b .header) (a .b .sums .counts) (length (now (a .out))) .0
+          (sym (c .before .before .closing-refusal .ensures) ∙ c .before .if1 .left) .2,
+    )
 
 returns-2 : tie.Need-returns-2
-returns-2 c = written reportSize _ _ _ (sym (c .before .before .before .before .before .closing-refusal .ensures) ∙ c .before .before .before .before .if1 .left) (c .before .before .put-report .ensures)
+returns-2 c = written reportSize _ _ _ (sym (c .before .before .before .before .before .closing-refusal .ensures) ∙
+    c .before .before .before .before .if1 .left) (c .before .before .put-report .ensures)
 
 pub close-spec : {M : Type 1} → statement M
 close-spec = tie.close (tie.spec (λ c κs. search needs) returns put-report-requires (λ c. search needs) returns-2)

@@ -19,7 +19,12 @@ stateFor : tie.Start → State
 stateFor c = stateAt (c .args .b) (now (c .args .rates)) (now (c .args .cells))
 
 add-loan-requires : tie.Need-add-loan-requires
-add-loan-requires c κs = (c .before .before .before .before .pre .0, subst (λ (l : Line). Ranged (lineContent l)) (c .before .before .line .given .1) (c .before .before .before .before .pre .1), c .before .before .before .before .pre .2)
+add-loan-requires c κs = (
+  c .before .before .before .before .pre .0,
+  subst (λ (l : Line). Ranged (lineContent l)) (c .before .before .line .given .1)
+      (c .before .before .before .before .pre .1),
+  c .before .before .before .before .pre .2,
+)
 
 policy-requires : tie.Need-policy-requires
 policy-requires c κs = let r : PolicyRanges (c .before .line2 .given .0 .0) =
@@ -65,26 +70,31 @@ add-other-requires-4 c κs =
 
 returns : tie.Need-returns
 unfolding stateFor
-returns c = loan-fed (stateFor (c .before .before .before .before .before)) (c .before .before .before .line .given .0 .0) (c .before .before .before .line .given .1) (c .add-loan .ensures .0) (c .add-loan .ensures .1)
+returns c = loan-fed (stateFor (c .before .before .before .before .before)) (c .before .before .before .line .given .0 .0)
+    (c .before .before .before .line .given .1) (c .add-loan .ensures .0) (c .add-loan .ensures .1)
 
 returns-2 : tie.Need-returns-2
 unfolding stateFor share contentKind cellsWith
-returns-2 c = other-fed (stateFor (c .before .before .before .before .before)) (PolicyLine (c .before .before .before .line2 .given .0 .0)) refl (c .before .before .before .line2 .given .1) (c .before .policy .ensures) refl (c .add-other .ensures)
+returns-2 c = other-fed (stateFor (c .before .before .before .before .before)) (PolicyLine (c .before .before .before .line2 .given .0 .0)) refl
+    (c .before .before .before .line2 .given .1) (c .before .policy .ensures) refl (c .add-other .ensures)
 
 returns-3 : tie.Need-returns-3
 unfolding stateFor share contentKind cellsWith
 returns-3 c =
-    other-fed (stateFor (c .before .before .before .before .before)) (DerivativeLine (c .before .before .before .line3 .given .0 .0)) refl (c .before .before .before .line3 .given .1) (c .before .derivative .ensures) refl
+    other-fed (stateFor (c .before .before .before .before .before)) (DerivativeLine (c .before .before .before .line3 .given .0 .0)) refl
+    (c .before .before .before .line3 .given .1) (c .before .derivative .ensures) refl
     (c .add-other2 .ensures)
 
 returns-4 : tie.Need-returns-4
 unfolding stateFor share contentKind cellsWith
-returns-4 c = other-fed (stateFor (c .before .before .before .before .before)) (AssetLine (c .before .before .before .line4 .given .0 .0)) refl (c .before .before .before .line4 .given .1) (c .before .asset .ensures) refl (c .add-other3 .ensures)
+returns-4 c = other-fed (stateFor (c .before .before .before .before .before)) (AssetLine (c .before .before .before .line4 .given .0 .0)) refl
+    (c .before .before .before .line4 .given .1) (c .before .asset .ensures) refl (c .add-other3 .ensures)
 
 returns-5 : tie.Need-returns-5
 unfolding stateFor share contentKind cellsWith
 returns-5 c =
-    other-fed (stateFor (c .before .before .before .before .before .before)) (AmountLine (c .before .before .before .before .line5 .given .0 .0)) refl (c .before .before .before .before .line5 .given .1) (c .before .amount .ensures) refl (c .add-other4 .ensures)
+    other-fed (stateFor (c .before .before .before .before .before .before)) (AmountLine (c .before .before .before .before .line5 .given .0 .0)) refl
+    (c .before .before .before .before .line5 .given .1) (c .before .amount .ensures) refl (c .add-other4 .ensures)
 
 returns-6 : tie.Need-returns-6
 unfolding stateFor

@@ -48,7 +48,8 @@ returns c =
     )
 
 same-length : tie.Need-same-length Inv-loop μ-loop
-same-length c = c .before .before .before .buf .given ∙ c .before .before .before .before .before .before .before .before .loop .inv .5 ∙ sym (c .before .before .before .before .before .before .before .before .before .before .before .before .pre .2)
+same-length c = c .before .before .before .buf .given ∙ c .before .before .before .before .before .before .before .before .loop .inv .5 ∙ sym
+    (c .before .before .before .before .before .before .before .before .before .before .before .before .pre .2)
 
 loop-again : tie.Need-loop-again Inv-loop μ-loop
 loop-again c =
@@ -57,7 +58,8 @@ loop-again c =
     let n : length (r .last .1 .1 .1 .1 .0) ≡ 65536 = c .before .before .before .before .buf .given ∙ l .inv .5 in
     let few : r .result .count ≤ length (r .last .1 .1 .1 .1 .0) = r .ensures .0 .count in
     let on : r .result .run .read ≡ l .run .read + r .result .count = r .ensures .1 .0 .1 in
-    let left : r .result .run .read + 65536 * (l .turns - 1) ≤ 2 ^ 60 = omega (arith, on, few, n, l .inv .2, c .before .before .before .before .before .before .before .before .loop-test .taken) in (
+    let left : r .result .run .read + 65536 * (l .turns - 1) ≤ 2 ^ 60 = omega
+    (arith, on, few, n, l .inv .2, c .before .before .before .before .before .before .before .before .loop-test .taken) in (
       r .ensures .1 .0 .0,
       rw on (reached-on (l .inv .1) (r .ensures .0)),
       left,
@@ -68,8 +70,14 @@ loop-again c =
 
 returns-2 : tie.Need-returns-2 Inv-loop μ-loop
 returns-2 c =
-    let l = c .before .loop in
-    (l .inv .1, ((l .inv .0, omega (arith, l .inv .2)), ends-failed (readingOf (l .run) (now (c .before .before .before .before .before .args .rates)) (l .cells)) 0 false))
+    let l = c .before .loop in (
+      l .inv .1,
+      (
+        (l .inv .0, omega (arith, l .inv .2)),
+        ends-failed
+            (readingOf (l .run) (now (c .before .before .before .before .before .args .rates)) (l .cells)) 0 false,
+      ),
+    )
 
 pub read-all-spec : {M : Type 1} → statement M
 read-all-spec =

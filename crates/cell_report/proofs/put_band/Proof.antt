@@ -13,7 +13,8 @@ returns c =
     let two = three .before .before .before .before in
     let one = two .before .before .before .before in (
       written-then (written-then (written-then (written-then (written-then (nothing-written (one .before .before .before .args .out .now))
-          (one .add-cell .ensures .0)) (two .add-cell2 .ensures .0)) (three .add-cell3 .ensures .0)) (four .add-cell4 .ensures .0)) (five .add-cell5 .ensures .0),
+          (one .add-cell .ensures .0)) (two .add-cell2 .ensures .0)) (three .add-cell3 .ensures .0)) (four .add-cell4 .ensures .0))
+          (five .add-cell5 .ensures .0),
       search needs,
     )
 

@@ -16,7 +16,8 @@ returns c =
     let p = c .before .before .before .before .before .before .pre in
     let l = c .before .lines in
     held-ended (stageAt (a .p) (a .rates .now) (a .cells .now)) (a .tail .now) (a .held) (l .result .rest)
-    (stageAt (l .result .progress) (a .rates .now) (l .last .1 .1 .1 .0)) (p .4) (p .5) (p .6) (p .0) (l .ensures .0) (l .ensures .1 .0 .0) (l .ensures .1 .0 .1)
+    (stageAt (l .result .progress) (a .rates .now) (l .last .1 .1 .1 .0)) (p .4) (p .5) (p .6) (p .0) (l .ensures .0) (l .ensures .1 .0 .0)
+    (l .ensures .1 .0 .1)
 
 pub end-held-spec : {M : Type 1} → statement M
 end-held-spec =

@@ -24,7 +24,11 @@ returns c =
     prints (a .asked) (readingOf (a .run) (now (a .rates)) (now (a .cells))) (rw (e, start .pre .3) (c .before .before .put-answer .ensures))
 
 put-answer-requires-2 : tie.Need-put-answer-requires-2
-put-answer-requires-2 c κs = (rw (c .before .before .before .before .before .before .before .before .before .before .pre .3) at (c .before .before .before .end-held .ensures .1 .0), search needs)
+put-answer-requires-2 c κs = (
+  rw (c .before .before .before .before .before .before .before .before .before .before .pre .3) at
+      (c .before .before .before .end-held .ensures .1 .0),
+  search needs,
+)
 
 returns-2 : tie.Need-returns-2
 returns-2 c =
@@ -35,7 +39,13 @@ returns-2 c =
     length-take-le (a .run .held) (a .run .tail) (omega (arith, start .pre .0 .held, start .pre .0 .room)) in
     let e = c .before .before .before .before .before .before .end-held .ensures .0 in
     prints (a .asked) (readingOf (a .run) (now (a .rates)) (now (a .cells)))
-    (rw (ended-line (stageAt (a .run .progress) (now (a .rates)) (now (a .cells))) line (omega (arith, c .before .before .before .before .before .before .before .before .before .before .if1 .left)), ← e, start .pre .3) (c .before .before .put-answer2 .ensures))
+    (rw (
+      ended-line (stageAt (a .run .progress) (now (a .rates)) (now (a .cells))) line
+          (omega (arith, c .before .before .before .before .before .before .before .before .before .before .if1 .left)),
+      ← e,
+      start .pre .3,
+    )
+    (c .before .before .put-answer2 .ensures))
 
 pub finish-spec : {M : Type 1} → statement M
 finish-spec =

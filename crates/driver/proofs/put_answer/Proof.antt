@@ -20,18 +20,26 @@ put-refusal-requires c κs =
 
 returns : tie.Need-returns
 unfolding stageFor
-returns c = rw (printed-refused (c .before .before .before .before .before .before .args .asked) (stageFor (c .before .before .before .before .before .before)) (c .before .before .before .before .if1 .taken)) (c .before .before .put-refusal .ensures)
+returns c =
+    let start = c .before .before .before .before .before .before in
+    rw (printed-refused (start .args .asked) (stageFor start) (c .before .before .before .before .if1 .taken)) (c .before .before .put-refusal .ensures)
 
 put-refusal-requires-2 : tie.Need-put-refusal-requires-2
 put-refusal-requires-2 c κs = refusal-room 2 1 (length (now (c .before .before .before .before .args .out))) (omega arith) (omega arith) (omega arith)
 
 returns-2 : tie.Need-returns-2
 unfolding stageFor
-returns-2 c = rw (printed-empty (c .before .before .before .before .before .before .before .args .asked) (stageFor (c .before .before .before .before .before .before .before)) (c .before .before .before .before .before .if1 .left) (c .before .before .before .before .if2 .taken)) (c .before .before .put-refusal2 .ensures)
+returns-2 c =
+    let start = c .before .before .before .before .before .before .before in
+    rw (printed-empty (start .args .asked) (stageFor start) (c .before .before .before .before .before .if1 .left)
+    (c .before .before .before .before .if2 .taken)) (c .before .before .put-refusal2 .ensures)
 
 returns-3 : tie.Need-returns-3
 unfolding stageFor
-returns-3 c = rw (printed-end (c .before .before .before .before .before .before .before .before .args .asked) (stageFor (c .before .before .before .before .before .before .before .before)) (c .before .before .before .before .before .before .if1 .left) (c .before .before .before .before .before .if2 .left)) (c .before .before .put-closing .ensures)
+returns-3 c =
+    let start = c .before .before .before .before .before .before .before .before in
+    rw (printed-end (start .args .asked) (stageFor start) (c .before .before .before .before .before .before .if1 .left)
+    (c .before .before .before .before .before .if2 .left)) (c .before .before .put-closing .ensures)
 
 pub put-answer-spec : {M : Type 1} → statement M
 put-answer-spec =

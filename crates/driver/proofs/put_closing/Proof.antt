@@ -14,57 +14,79 @@ stateFor : tie.Start → State
 stateFor c = stateAt (c .args .b) builtInRates (now (c .args .cells))
 
 put-refusal-requires : tie.Need-put-refusal-requires
-put-refusal-requires c κs = refusal-room 6 (c .before .before .before .before .before .before .before .before .args .number) _ (omega arith) (omega arith) (search needs)
+put-refusal-requires c κs =
+    let start = c .before .before .before .before .before .before .before .before in
+    refusal-room 6 (start .args .number) _ (omega arith) (omega arith) (search needs)
 
 returns : tie.Need-returns
 unfolding stateFor
 returns c =
-    let a = c .before .before .before .before .before .before .before .before .before .before .before .args in
+    let start = c .before .before .before .before .before .before .before .before .before .before .before in
+    let a = start .args in
     let d = c .before .before .before .before .before .before .before .before .close in
-    let k = closing-refused (a .asked) (stateFor (c .before .before .before .before .before .before .before .before .before .before .before)) (now (a .out)) (c .before .before .before .before .before .before .before .before .before .before .before .pre .1) (d .ensures .0) (d .ensures .1) (c .before .before .before .before .if1 .taken) in
+    let k = closing-refused (a .asked) (stateFor start) (now (a .out)) (start .pre .1) (d .ensures .0) (d .ensures .1)
+    (c .before .before .before .before .if1 .taken) in
     rw (k .1 (a .number), ← k .0) (c .before .before .put-refusal .ensures)
 
 -- the report leaves room for the table
 sub-put-table : tie.Need-sub-put-table
-sub-put-table c = omega (arith, report-room (c .before .before .before .before .before .before .before .before .args .b) (c .before .before .before .before .before .before .before .before .pre .0 .book) (now (c .before .before .before .before .before .before .before .before .args .out)) (c .before .before .before .before .before .close .ensures .0) (c .before .if1 .left))
+sub-put-table c =
+    let start = c .before .before .before .before .before .before .before .before in
+    omega (
+      arith,
+      report-room (start .args .b) (start .pre .0 .book) (now (start .args .out)) (c .before .before .before .before .before .close .ensures .0)
+          (c .before .if1 .left),
+    )
 
 part-put-table-start : tie.Need-part-put-table-start
-part-put-table-start c = omega (arith, report-room (c .before .before .before .before .before .before .before .before .args .b) (c .before .before .before .before .before .before .before .before .pre .0 .book) (now (c .before .before .before .before .before .before .before .before .args .out)) (c .before .before .before .before .before .close .ensures .0) (c .before .if1 .left))
+part-put-table-start c =
+    let start = c .before .before .before .before .before .before .before .before in
+    omega (
+      arith,
+      report-room (start .args .b) (start .pre .0 .book) (now (start .args .out)) (c .before .before .before .before .before .close .ensures .0)
+          (c .before .if1 .left),
+    )
 
 put-table-requires : tie.Need-put-table-requires
 unfolding stateFor
 put-table-requires c κs =
-    let d = c .before .before .before .before .before .before .close in
-    let a = c .before .before .before .before .before .before .before .before .before .args in (
-      closing-enough (a .asked) (stateFor (c .before .before .before .before .before .before .before .before .before)) (now (a .out)) (c .before .before .before .before .before .before .before .before .before .pre .1) (d .ensures .0) (d .ensures .1) (c .before .before .if1 .left),
-      omega (arith, report-room (a .b) (c .before .before .before .before .before .before .before .before .before .pre .0 .book) (now (a .out)) (d .ensures .0) (c .before .before .if1 .left)),
+    let start = c .before .before .before .before .before .before .before .before .before in
+    let a = start .args in
+    let d = c .before .before .before .before .before .before .close in (
+      closing-enough (a .asked) (stateFor start) (now (a .out)) (start .pre .1) (d .ensures .0) (d .ensures .1) (c .before .before .if1 .left),
+      omega (arith, report-room (a .b) (start .pre .0 .book) (now (a .out)) (d .ensures .0) (c .before .before .if1 .left)),
     )
 
 add-result : tie.Need-add-result
 unfolding stateFor
 add-result c =
-    let a = c .before .before .before .before .before .before .before .before .before .before .before .before .args in
+    let start = c .before .before .before .before .before .before .before .before .before .before .before .before in
+    let a = start .args in
+    let d = c .before .before .before .before .before .before .before .before .before .close in
     omega (
       arith,
-      report-room (a .b) (c .before .before .before .before .before .before .before .before .before .before .before .before .pre .0 .book) (now (a .out)) (c .before .before .before .before .before .before .before .before .before .close .ensures .0) (c .before .before .before .before .before .if1 .left),
+      report-room (a .b) (start .pre .0 .book) (now (a .out)) (d .ensures .0) (c .before .before .before .before .before .if1 .left),
       c .before .before .put-table .ensures .count,
-      demand1 .cells-fit (stateFor (c .before .before .before .before .before .before .before .before .before .before .before .before)) (c .before .before .before .before .before .before .before .before .before .before .before .before .pre .0),
+      demand1 .cells-fit (stateFor start) (start .pre .0),
     )
 
 returns-2 : tie.Need-returns-2
 unfolding stateFor
 returns-2 c =
+    let start = c .before .before .before .before .before .before .before .before .before .before .before .before in
+    let a = start .args in
     let d = c .before .before .before .before .before .before .before .before .before .close in
-    let a = c .before .before .before .before .before .before .before .before .before .before .before .before .args in
-    report-and-table (a .asked) (stateFor (c .before .before .before .before .before .before .before .before .before .before .before .before)) (now (a .out)) (c .before .before .before .before .before .before .before .before .before .before .before .before .pre .1) (d .ensures .0) (d .ensures .1) (c .before .before .before .before .before .if1 .left) (c .before .before .before .before .if2 .taken) (a .number)
-    (c .before .before .put-table .ensures)
+    report-and-table (a .asked) (stateFor start) (now (a .out)) (start .pre .1) (d .ensures .0) (d .ensures .1)
+    (c .before .before .before .before .before .if1 .left)
+    (c .before .before .before .before .if2 .taken) (a .number) (c .before .before .put-table .ensures)
 
 returns-3 : tie.Need-returns-3
 unfolding stateFor
 returns-3 c =
+    let start = c .before .before .before .before .before .before .before .before in
+    let a = start .args in
     let d = c .before .before .before .before .before .close in
-    let a = c .before .before .before .before .before .before .before .before .args in
-    report-alone (a .asked) (stateFor (c .before .before .before .before .before .before .before .before)) (now (a .out)) (c .before .before .before .before .before .before .before .before .pre .1) (d .ensures .0) (d .ensures .1) (c .before .if1 .left) (c .if2 .left) (a .number)
+    report-alone (a .asked) (stateFor start) (now (a .out)) (start .pre .1) (d .ensures .0) (d .ensures .1) (c .before .if1 .left) (c .if2 .left) (a .number)
 
 pub put-closing-spec : {M : Type 1} → statement M
 put-closing-spec =

@@ -23,7 +23,8 @@ sound = record {
 returns : tie.Need-returns
 unfolding unbroken
 returns c =
-    let s : stateAt (emptyBook zeroHeader) builtInRates noCells ≡ stateAt (record { header = zeroHeader; sums = c .before .none .result }) builtInRates (c .before .before .clear .last .0) =
+    let s : stateAt (emptyBook zeroHeader) builtInRates noCells ≡ stateAt (record { header = zeroHeader; sums = c .before .none .result }) builtInRates
+    (c .before .before .clear .last .0) =
     λ i. stateAt (record { header = zeroHeader; sums = sym (c .before .none .ensures) i }) builtInRates (sym (c .before .before .clear .ensures) i) in (
       λ i. record { stage = record { refusal = 0; number = 1; state = sym s i }; tail = [] },
       (

@@ -58,7 +58,8 @@ returns-3 c =
     let h = c .before .before .before .before .before .before .before .before .before .hold in
     let n = c .before .before .before .before .end-held in
     line-and-more (a .run) (now (a .rates)) (now (a .cells)) (now (a .chunk)) (start .pre .0) (e .result) (e .ensures .0)
-    (stageAt (n .result) (now (a .rates)) (n .last .1 .1 .1 .1 .1 .0)) (h .result) (h .last .0) (h .ensures .0) (omega (arith, c .before .before .before .before .before .before .before .if2 .left)) (n .ensures .0)
+    (stageAt (n .result) (now (a .rates)) (n .last .1 .1 .1 .1 .1 .0)) (h .result) (h .last .0) (h .ensures .0)
+    (omega (arith, c .before .before .before .before .before .before .before .if2 .left)) (n .ensures .0)
     (c .read-lines2 .ensures)
 
 pub step-spec : {M : Type 1} → statement M
