@@ -66,6 +66,6 @@ withCell cells place x =
 unfoldable pub cellsWith : Terms → Content → List ℕ → List ℕ
 cellsWith t c cells = ofLoan (λ l. withCell cells (placeOf (loanBand l) (loanLtv l)) (loanCell t l)) cells c
 
--- Every place is bounded by a multiple of the additions: so many that no two need be told apart.
+-- Every place is bounded by a multiple of the additions made to the table, so that no two places need be told apart.
 pub record CellsBounded (cells : List ℕ) (additions : ℕ) : Type 0 where
   pub each : (i : ℕ) → getD cells i 0 ≤ 300000000 * additions
