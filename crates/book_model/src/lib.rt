@@ -20,7 +20,7 @@ pub struct Fed {
     pub book: Book,
 }
 
-// The answer of closing: a refusal, 0 for none, and the length of the report written, 0 where refused.
+// The answer of a closing: a refusal, 0 for none, and the length of the text written, 0 where refused.
 pub struct Closed {
     pub refusal: u64,
     pub length: usize,
