@@ -7,7 +7,9 @@ import stored
 from reference.exponential import combination_ceil, combination_floor, table_entry
 
 ENTRIES = 1537
-STEP = 1 << 32  # one 64th in units of 2^-38
+BITS = 32  # of the remainder
+STEP = 1 << BITS  # one 64th in units of 2^-38
+HALF = STEP >> 1  # the highest bit of the remainder
 END = (ENTRIES - 1) * STEP  # 24
 SLACK = 16  # what an answer between two entries may lie above
 
@@ -38,11 +40,9 @@ def _random(source):
 
 def stored_files():
     source = random.Random(38)
-    ys = set()
-    for k in range(ENTRIES):
-        ys.update((k * STEP, k * STEP + 1))
-        if k:
-            ys.add(k * STEP - 1)
+    ys = {k * STEP for k in range(ENTRIES)} | {END + 1}
+    ys.update(k * STEP + r for k in range(ENTRIES - 1) for r in (1, HALF - 1, HALF, HALF + 1, STEP - 1))
+    ys.update(k * STEP + (1 << bit) + d for k in (0, 1, ENTRIES - 2) for bit in range(BITS) for d in (-1, 0, 1))
     for bits in range(43, 65):
         ys.update(y for y in ((1 << bits) - 1, 1 << bits) if y < 1 << 64)
     ys.update(_random(source) for _ in range(1500))

@@ -21,20 +21,21 @@ pub fn table() -> Exponentials
 // 24 in units of 2^-38: the exponent of the last entry.
 const LAST: u64 = 6597069766656;
 
+// What an exponent leaves above an entry, below one 64th, is r: in units of 2^-38 these are 32 bits, and none is cut (02, L2).
+
 // r²/2, rounded down; r in units of 2^-38, the result in units of 2^-40.
-fn half_square(r: u64) -> u64
-    requires { ⌜ r < 2 ^ 32 ⌝ }
+fn half_square(r: u32) -> u64
     ensures { λ s. ⌜ s ≡ halfSquare r ⌝ }
 {
-    r * r / 137438953472
+    (r as u64) * (r as u64) / 137438953472
 }
 
 // r/3 (1 - r/4), rounded down, in units of 2^-32; s is r²/2.
-fn third_part(r: u64, s: u64) -> u64
-    requires { ⌜ (r < 2 ^ 32) × (s ≡ halfSquare r) ⌝ }
+fn third_part(r: u32, s: u64) -> u64
+    requires { ⌜ s ≡ halfSquare r ⌝ }
     ensures { λ v. ⌜ v ≡ thirdPart r ⌝ }
 {
-    (8 * r - s) * 178956970 / 274877906944
+    (8 * (r as u64) - s) * 178956970 / 274877906944
 }
 
 fn less_one(x: u64) -> u64
@@ -44,13 +45,12 @@ fn less_one(x: u64) -> u64
 }
 
 // 1 - exp(-r) for r below one 64th, rounded down; r in units of 2^-38, the result in units of 2^-40.
-fn decrease_of(r: u64) -> u64
-    requires { ⌜ r < 2 ^ 32 ⌝ }
+fn decrease_of(r: u32) -> u64
     ensures { λ d. ⌜ (d ≡ decrease r) × (d < 2 ^ 34) ⌝ }
 {
     let s = half_square(r);
     let v = third_part(r, s);
-    less_one(4 * r - s + s * v / 4294967296)
+    less_one(4 * (r as u64) - s + s * v / 4294967296)
 }
 
 // t (1 - d), rounded up.
@@ -75,6 +75,6 @@ pub fn exp_upper(y: u64, table: &Exponentials) -> u64
 {
     let x = within(y);
     let k = (x / 4294967296) as usize;
-    let remainder = x % 4294967296;
+    let remainder = (x % 4294967296) as u32;
     lower(table[k], decrease_of(remainder))
 }

@@ -1,4 +1,4 @@
--- `exponential::exp_upper` meets its contract: the exponent within 24 has an entry. Assumes nothing.
+-- `exponential::exp_upper` meets its contract: the exponent within 24 has an entry, and what it leaves has 32 bits. Assumes nothing.
 use Prim.Native.Nat.{_/_}
 use mathlib.Core.Path.{refl}
 use borrow.Author.Needs.{needs}
@@ -7,6 +7,9 @@ use Rattle.exponential.specs.Exponential.{expWithin, expUpper}
 use Rattle.exponential.proofs.Entries.{entry-bounded}
 use Rattle.exponential.proofs.exp_upper.Statement.{statement}
 use Rattle.exponential.proofs.exp_upper.Tie as tie
+
+cast-remainder : tie.Need-cast-remainder
+cast-remainder c = omega arith
 
 lower-requires : tie.Need-lower-requires
 lower-requires c κs =
@@ -24,6 +27,7 @@ exp-upper-spec =
     tie.close
     (tie.spec
     (λ c κs. search needs)
+    cast-remainder
     (λ c. search needs)
     (λ c. search needs)
     (λ c κs. search needs)

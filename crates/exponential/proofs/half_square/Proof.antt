@@ -1,4 +1,4 @@
--- `exponential::half_square` meets its contract: the square of a number below 2^32 fits. Assumes nothing.
+-- `exponential::half_square` meets its contract: the square of a number of 32 bits fits 64. Assumes nothing.
 use borrow.Author.Needs.{needs}
 use Rattle.exponential.specs.Exponential.{halfSquare}
 use Rattle.exponential.proofs.Steps.{square-fits}
@@ -7,7 +7,7 @@ use Rattle.exponential.proofs.half_square.Tie as tie
 use native.Mathlib.Omega.{arith}
 
 mul-result : tie.Need-mul-result
-mul-result c = omega (arith, square-fits (c .args .r) (c .pre))
+mul-result c = omega (arith, square-fits (c .args .r) (c .fits .r .fits))
 
 returns : tie.Need-returns
 unfolding halfSquare
