@@ -7,7 +7,8 @@ use Prim.Native.Nat.{ℕ}
 use native.Mathlib.Omega.{arith}
 use lib.Dec.{eqb}
 use Rattle.exact.specs.Choice.{pick}
-use Rattle.loan_charge.specs.CreditFactor.{builtInRates}
+use Rattle.loan_charge.specs.CreditFactor.{builtInRates, ratesOf}
+use Rattle.sheet.specs.Sheet.{sheetPasses}
 use Rattle.line_forms.specs.declared.Content.the-variants.{Loan as loan}
 use Rattle.line_forms.specs.declared.Header.{Header}
 use Rattle.line_forms.specs.declared.HeaderLine.{HeaderLine}
@@ -24,44 +25,64 @@ use Rattle.book_model.specs.declared.Book.{Book}
 use Rattle.book_model.specs.declared.Opened.{Opened}
 use Rattle.book_model.specs.declared.Fed.{Fed}
 use Rattle.book_model.specs.Accepted.{loanBeyond, loanRefusal, otherRefusal, refusalFor}
-use Rattle.book_model.specs.Calls.{State, Answer, stateAt, termsIn, openedOf, fedOf, zeroHeader, emptyBook, openingFor, opening, refusalIn, bookAfter}
+use Rattle.book_model.specs.Calls.{State, Answer, stateAt, termsIn, openedOf, fedOf, emptyBook, openingRefusal, openingFor, opening, refusalIn, bookAfter}
 use Rattle.book_model.specs.Calls.{tableWith, cellsAfter, feedingLine, feeding, SoundBook, Sound}
 use Rattle.book_model.specs.Cells.{loanBand, loanLtv, noCells, withCell, cellsWith, CellsBounded}
 use Rattle.book_model.specs.LineKinds.{a-loan, another, contentKind, kindOf, kindCounts}
 use Rattle.book_model.specs.Ranges.{LoanRanges, Ranged}
 use Rattle.book_model.specs.Share.{share, loanShare}
-use Rattle.book_model.specs.Steps.{answerWith}
-use Rattle.book_model.specs.Terms.{under}
+use Rattle.book_model.specs.Steps.{notOpened, answerWith}
+use Rattle.book_model.specs.Terms.{under, termsFor}
 use Rattle.book_model.proofs.BoundedShares.{loan-bounded, counted}
 use Rattle.book_model.proofs.Cells.{bounded-wider}
 use Rattle.book_model.proofs.Feeding.{room, book-room, asks, line-bounded, fed-refused, fed-sound, opening-sound}
 use Rattle.book_model.proofs.Near.{rates-chargeable}
 use Rattle.book_model.proofs.Ranged.{ranged, ranged-header}
 
--- Opening: l is what was read of the line, and the table of cells was cleared.
-module _ (line : List ℕ) {l : HeaderLine} (read : l ≡ headerOf line) {cells : List ℕ} (cleared : cells ≡ noCells) where
-  -- what opening promises of an answer and the table
-  abbrev Promised : Opened → Type 0
-  Promised r = (r ≡ openedOf (opening line)) × ((cells ≡ opening line .state .cells) × Sound (stateAt (r .book) builtInRates cells))
+-- Opening with a sheet: l is what was read of the line, and the table of cells was cleared.
+module _ (sheet line : List ℕ) {l : HeaderLine} (read : l ≡ headerOf line) {cells : List ℕ} (cleared : cells ≡ noCells) where
+  -- what opening promises of an answer and the tables
+  abbrev Promised : Opened → (rates : List ℕ) → Type 0
+  Promised r rates =
+      (r ≡ openedOf (opening sheet line)) × ((rates ≡ opening sheet line .state .rates) × ((cells ≡ opening sheet line .state .cells)
+      × Sound (stateAt (r .book) rates cells)))
 
-  opened-as : {r : Opened} → record { refusal = r .refusal; state = stateAt (r .book) builtInRates cells } ≡ openingFor l → Promised r
-  opened-as {r} e =
-      let answer : record { refusal = r .refusal; state = stateAt (r .book) builtInRates cells } ≡ opening line = e ∙ ap openingFor read in (
+  opened-as : {r : Opened} {rates : List ℕ} → record { refusal = r .refusal; state = stateAt (r .book) rates cells } ≡ openingFor sheet l → Promised r rates
+  opened-as {r} {rates} e =
+      let answer : record { refusal = r .refusal; state = stateAt (r .book) rates cells } ≡ opening sheet line = e ∙ ap (openingFor sheet) read in (
         ap openedOf answer,
         (
-          ap (λ (a : Answer). a .state .cells) answer,
-          subst (λ (a : Answer). Sound (a .state)) (sym answer) (opening-sound (headerOf line) (ranged-header line)),
+          ap (λ (a : Answer). a .state .rates) answer,
+          (
+            ap (λ (a : Answer). a .state .cells) answer,
+            subst (λ (a : Answer). Sound (a .state)) (sym answer) (opening-sound sheet (headerOf line) (ranged-header line)),
+          ),
         ),
       )
 
-  pub opened : (h : Header) → l ≡ HeaderRead h → {b : Book} → b ≡ emptyBook h → Promised (record { refusal = 0; book = b })
-  unfolding openingFor
-  opened h e f = opened-as ((λ i. record { refusal = 0; state = stateAt (f i) builtInRates (cleared i) }) ∙ ap openingFor (sym e))
+  pub opened : (h : Header) → l ≡ HeaderRead h → {r : Opened} {rates : List ℕ} → r ≡ openedOf (openingFor sheet (HeaderRead h)) →
+      rates ≡ openingFor sheet (HeaderRead h) .state .rates → Promised r rates
+  opened h e f g =
+      opened-as ((λ i. record { refusal = f i .refusal; state = stateAt (f i .book) (g i) (cleared i) }) ∙ ap (openingFor sheet) (sym e))
 
-  pub not-opened : (n : ℕ) → l ≡ HeaderRefusal n → {h : Header} → h ≡ zeroHeader → {b : Book} → b ≡ emptyBook h → Promised (record { refusal = n; book = b })
-  unfolding openingFor
-  not-opened n e z f =
-      opened-as ((λ i. record { refusal = n; state = stateAt ((f ∙ ap emptyBook z) i) builtInRates (cleared i) }) ∙ ap openingFor (sym e))
+  pub not-opened : (n : ℕ) → l ≡ HeaderRefusal n → {r : Opened} {rates : List ℕ} → r ≡ notOpened n → rates ≡ builtInRates → Promised r rates
+  unfolding openingRefusal termsFor
+  not-opened n e f g =
+      opened-as ((λ i. record { refusal = f i .refusal; state = stateAt (f i .book) (g i) (cleared i) }) ∙ ap (openingFor sheet) (sym e))
+
+-- Opening under a sheet with a header that was read, whether or not the sheet passes.
+module _ (sheet : List ℕ) (h : Header) {test : Bool} (tested : test ≡ sheetPasses sheet) where
+  -- what it promises of an answer and the table
+  abbrev OpensUnder : Opened → (rates : List ℕ) → Type 0
+  OpensUnder r rates = (r ≡ openedOf (openingFor sheet (HeaderRead h))) × (rates ≡ openingFor sheet (HeaderRead h) .state .rates)
+
+  pub passed : test ≡ true → {b : Book} {rates : List ℕ} → b ≡ emptyBook h → rates ≡ ratesOf sheet → OpensUnder (record { refusal = 0; book = b }) rates
+  unfolding openingRefusal termsFor
+  passed e f g = rw (← tested, e) ((λ i. record { refusal = 0; book = f i }), g)
+
+  pub turned-down : test ≡ false → {r : Opened} {rates : List ℕ} → r ≡ notOpened 10 → rates ≡ builtInRates → OpensUnder r rates
+  unfolding openingRefusal termsFor
+  turned-down e f g = rw (← tested, e) (f, g)
 
 -- Feeding a line: l is what was read of it.
 module _ (s : State) (line : List ℕ) {l : Line} (read : l ≡ lineOf line) (sound : Sound s) where

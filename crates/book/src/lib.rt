@@ -3,19 +3,20 @@ ghost use mathlib.Core.Path.{_≡_};
 ghost use Prim.Native.Nat.{_≤_};
 ghost use lib.ListN.{length};
 ghost use Rattle.loan_charge.specs.Tables.{exponentials};
-ghost use Rattle.loan_charge.specs.CreditFactor.{builtInRates};
+ghost use Rattle.loan_charge.specs.CreditFactor.{builtInSheet, builtInRates};
+ghost use Rattle.line_forms.specs.declared.HeaderLine.the-variants.{Header as HeaderRead};
 ghost use Rattle.line_forms.specs.declared.Content.the-variants.{Loan as loan};
 ghost use Rattle.line_forms.specs.Claims.{lineContent};
 ghost use Rattle.figures.specs.Sums.{Bounded, InLimits, plus};
 ghost use Rattle.report.specs.Line.{Written};
 ghost use Rattle.book_model.specs.Accepted.{loanBeyond, loanRefusal, otherRefusal};
-ghost use Rattle.book_model.specs.Calls.{stateAt, openedOf, fedOf, zeroHeader, emptyBook, opening, tableWith, feedingLine, feeding, SoundBook, Sound};
+ghost use Rattle.book_model.specs.Calls.{stateAt, openedOf, fedOf, emptyBook, openingFor, opening, tableWith, feedingLine, feeding, SoundBook, Sound};
 ghost use Rattle.book_model.specs.Calls.{closingRefusal, reportSize, reportOf, closing, closed, closingCells, closedCells};
 ghost use Rattle.book_model.specs.LineKinds.{another, kindCounts};
 ghost use Rattle.book_model.specs.Ranges.{Ranged, LoanRanges};
 ghost use Rattle.book_model.specs.Share.{loanShare};
-ghost use Rattle.book_model.specs.Steps.{answerWith};
-ghost use Rattle.book_model.specs.Terms.{under};
+ghost use Rattle.book_model.specs.Steps.{notOpened, answerWith};
+ghost use Rattle.book_model.specs.Terms.{under, zeroHeader};
 use book_model::Book;
 use book_model::Closed;
 use book_model::Fed;
@@ -62,24 +63,58 @@ fn zero_header() -> Header
     }
 }
 
-// A header line opens a book, and clears the table of cells that is lent with it from here on.
-pub fn open(line: &[u8], cells: &mut Cells) -> Opened
-    ensures equation { λ r. ⌜ r ≡ openedOf (opening (now (line .entry))) ⌝ }
-    ensures cells { λ r. ⌜ now (cells .exit) ≡ opening (now (line .entry)) .state .cells ⌝ }
-    ensures sound { λ r. ⌜ Sound (stateAt (r .book) builtInRates (now (cells .exit))) ⌝ }
+// The value of a refused opening: an all-zero header, under the regulator's table.
+fn refused(refusal: u64, rates: &mut Rates) -> Opened
+    ensures equation { λ r. ⌜ r ≡ notOpened refusal ⌝ }
+    ensures rates { λ r. ⌜ now (rates .exit) ≡ builtInRates ⌝ }
+{
+    *rates = sheet::built_in_rates();
+    Opened {
+        refusal,
+        book: empty(zero_header()),
+    }
+}
+
+// A header that was read opens a book where the sheet keeps its rules, and is refused with 10 where not.
+fn open_under(header: Header, sheet: &[u64], rates: &mut Rates) -> Opened
+    ensures equation { λ r. ⌜ r ≡ openedOf (openingFor (now (sheet .entry)) (HeaderRead header)) ⌝ }
+    ensures rates { λ r. ⌜ now (rates .exit) ≡ openingFor (now (sheet .entry)) (HeaderRead header) .state .rates ⌝ }
+{
+    if sheet::passes(sheet) {
+        sheet::fill(rates, sheet);
+        return Opened {
+            refusal: 0,
+            book: empty(header),
+        };
+    }
+    refused(10, rates)
+}
+
+// A header line and a lent sheet of factors open a book (02, L3). The table of rates and the table of cells are lent with it from here on:
+// the rates become the sheet's, or the regulator's where the opening is refused, and the cells are cleared.
+pub fn open_sheet(line: &[u8], sheet: &[u64], rates: &mut Rates, cells: &mut Cells) -> Opened
+    ensures equation { λ r. ⌜ r ≡ openedOf (opening (now (sheet .entry)) (now (line .entry))) ⌝ }
+    ensures rates { λ r. ⌜ now (rates .exit) ≡ opening (now (sheet .entry)) (now (line .entry)) .state .rates ⌝ }
+    ensures cells { λ r. ⌜ now (cells .exit) ≡ opening (now (sheet .entry)) (now (line .entry)) .state .cells ⌝ }
+    ensures sound { λ r. ⌜ Sound (stateAt (r .book) (now (rates .exit)) (now (cells .exit))) ⌝ }
 {
     cells::clear(cells);
     let read = line_reading::read_header(line);
     match read {
-        HeaderLine::Header(header) => Opened {
-            refusal: 0,
-            book: empty(header),
-        },
-        HeaderLine::Refusal(refusal) => Opened {
-            refusal,
-            book: empty(zero_header()),
-        },
+        HeaderLine::Header(header) => open_under(header, sheet, rates),
+        HeaderLine::Refusal(refusal) => refused(refusal, rates),
     }
+}
+
+// A header line opens a book under the regulator's table.
+pub fn open(line: &[u8], rates: &mut Rates, cells: &mut Cells) -> Opened
+    ensures equation { λ r. ⌜ r ≡ openedOf (opening builtInSheet (now (line .entry))) ⌝ }
+    ensures rates { λ r. ⌜ now (rates .exit) ≡ opening builtInSheet (now (line .entry)) .state .rates ⌝ }
+    ensures cells { λ r. ⌜ now (cells .exit) ≡ opening builtInSheet (now (line .entry)) .state .cells ⌝ }
+    ensures sound { λ r. ⌜ Sound (stateAt (r .book) (now (rates .exit)) (now (cells .exit))) ⌝ }
+{
+    let sheet = sheet::built_in();
+    open_sheet(line, &sheet, rates, cells)
 }
 
 // A book with a line's share added.
@@ -168,7 +203,7 @@ fn feed_line(b: Book, exps: &Exponentials, rates: &Rates, cells: &mut Cells, lin
     }
 }
 
-// A line is fed to a book, with the constant tables lent too: for loops, since a constant array would be stored whole at every use.
+// A line is fed to a book, with the constant table lent too: for loops, since a constant array would be stored whole at every use.
 pub fn feed_with(b: Book, exps: &Exponentials, rates: &Rates, cells: &mut Cells, line: &[u8]) -> Fed
     requires { ⌜ Sound (stateAt b (now rates) (now cells)) × (now exps ≡ exponentials) ⌝ }
     ensures equation { λ r. ⌜ r ≡ fedOf (feeding (stateAt b (now (rates .entry)) (now (cells .entry))) (now (line .entry))) ⌝ }
@@ -182,16 +217,15 @@ pub fn feed_with(b: Book, exps: &Exponentials, rates: &Rates, cells: &mut Cells,
     Fed { refusal, book: b }
 }
 
-// A line is fed to a book that is opened under the regulator's table.
-pub fn feed(b: Book, cells: &mut Cells, line: &[u8]) -> Fed
-    requires { ⌜ Sound (stateAt b builtInRates (now cells)) ⌝ }
-    ensures equation { λ r. ⌜ r ≡ fedOf (feeding (stateAt b builtInRates (now (cells .entry))) (now (line .entry))) ⌝ }
-    ensures cells { λ r. ⌜ now (cells .exit) ≡ feeding (stateAt b builtInRates (now (cells .entry))) (now (line .entry)) .state .cells ⌝ }
-    ensures sound { λ r. ⌜ Sound (stateAt (r .book) builtInRates (now (cells .exit))) ⌝ }
+// A line is fed to a book, with the table of rates that its opening left.
+pub fn feed(b: Book, rates: &Rates, cells: &mut Cells, line: &[u8]) -> Fed
+    requires { ⌜ Sound (stateAt b (now rates) (now cells)) ⌝ }
+    ensures equation { λ r. ⌜ r ≡ fedOf (feeding (stateAt b (now (rates .entry)) (now (cells .entry))) (now (line .entry))) ⌝ }
+    ensures cells { λ r. ⌜ now (cells .exit) ≡ feeding (stateAt b (now (rates .entry)) (now (cells .entry))) (now (line .entry)) .state .cells ⌝ }
+    ensures sound { λ r. ⌜ Sound (stateAt (r .book) (now (rates .entry)) (now (cells .exit))) ⌝ }
 {
     let exps = loan_charge::charge::table();
-    let rates = loan_charge::credit::rates();
-    feed_with(b, &exps, &rates, cells, line)
+    feed_with(b, &exps, rates, cells, line)
 }
 
 // The refusal of a closing that asks for a buffer of so many bytes, 0 for none: 6 for too few loans, or too few without a score, then 9.

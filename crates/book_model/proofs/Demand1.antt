@@ -9,6 +9,7 @@ use lib.Dec.{eqb, ltb, leb}
 use borrow.Author.Tests.{eqb-true}
 use lib.ListN.{length}
 use Rattle.exact.specs.Choice.{pick}
+use Rattle.sheet.specs.Sheet.{sheetPasses}
 use Rattle.line_forms.specs.declared.HeaderLine.{HeaderLine}
 use Rattle.line_forms.specs.declared.HeaderLine.the-variants.{Header as HeaderRead, Refusal as HeaderRefusal}
 use Rattle.line_forms.specs.declared.Line.{Line}
@@ -23,10 +24,11 @@ use Rattle.book_report.proofs.Lengths.{report-most}
 use Rattle.cell_report.proofs.Laws.{cells-fit as cells-fit-64}
 use Rattle.book_model.specs.declared.Book.{Book}
 use Rattle.book_model.specs.Accepted.{mostOther, loanBeyond, refusalFor}
-use Rattle.book_model.specs.Calls.{State, stateAt, openingFor, refusalIn, bookAfter, cellsAfter, feedingLine, tooFew, closingWith, reportSize}
+use Rattle.book_model.specs.Calls.{State, stateAt, emptyState, openingRefusal, openingFor, refusalIn, bookAfter, cellsAfter, feedingLine, tooFew, closingWith, reportSize}
 use Rattle.book_model.specs.Calls.{reportOf, cellsSize, cellsTextOf, SoundBook, Sound}
 use Rattle.book_model.specs.Demand1.{refusedState, Demand1}
 use Rattle.book_model.specs.LineKinds.{contentKind}
+use Rattle.book_model.specs.Terms.{underSheet, refusedTerms, termsFor}
 use Rattle.book_model.proofs.Closings.{untouched}
 use Rattle.book_model.proofs.Feeding as feeding-laws
 use Rattle.book_model.proofs.Ranged.{ranged, ranged-header}
@@ -38,11 +40,15 @@ first e = List·Memᴰ·head e
 later : {n x : ℕ} {xs : List ℕ} → List·Memᴰ n xs → List·Memᴰ n (x ∷ xs)
 later m = List·Memᴰ·tail m
 
-opening-number : (l : HeaderLine) → ((n : ℕ) → l ≡ HeaderRefusal n → (n ≡ 1) ⊎ (n ≡ 2) ⊎ (n ≡ 7) ⊎ (n ≡ 3) ⊎ (n ≡ 4)) →
-    List·Memᴰ (openingFor l .refusal) (0 ∷ 1 ∷ 2 ∷ 7 ∷ 3 ∷ 4 ∷ [])
-unfolding openingFor
-opening-number (HeaderRead h) k = first refl
-opening-number (HeaderRefusal n) k =
+tested-10 : (passes : Bool) → List·Memᴰ {A = ℕ} (pick passes 0 10) (0 ∷ 1 ∷ 2 ∷ 7 ∷ 3 ∷ 4 ∷ 10 ∷ [])
+tested-10 true = first refl
+tested-10 false = later (later (later (later (later (later (first refl))))))
+
+opening-number : (sheet : List ℕ) (l : HeaderLine) → ((n : ℕ) → l ≡ HeaderRefusal n → (n ≡ 1) ⊎ (n ≡ 2) ⊎ (n ≡ 7) ⊎ (n ≡ 3) ⊎ (n ≡ 4)) →
+    List·Memᴰ (openingFor sheet l .refusal) (0 ∷ 1 ∷ 2 ∷ 7 ∷ 3 ∷ 4 ∷ 10 ∷ [])
+unfolding openingRefusal
+opening-number sheet (HeaderRead h) k = tested-10 (sheetPasses sheet)
+opening-number sheet (HeaderRefusal n) k =
     later (⊎-elim first (λ a. later (⊎-elim first (λ b. later (⊎-elim first (λ c. later (⊎-elim first (λ d. later (first d)) c)) b)) a)) (k n refl))
 
 -- the numbers of feeding, 5 and 8 the last
@@ -71,10 +77,14 @@ closing-number true y = later (first refl)
 closing-number false true = later (later (first refl))
 closing-number false false = first refl
 
-refused-opening : (l : HeaderLine) → (openingFor l .refusal ≡ 0 → ⊥) → openingFor l .state ≡ refusedState
-unfolding openingFor
-refused-opening (HeaderRead h) n = absurd (n refl)
-refused-opening (HeaderRefusal k) n = refl
+refused-opening : (sheet : List ℕ) (l : HeaderLine) → (openingFor sheet l .refusal ≡ 0 → ⊥) → openingFor sheet l .state ≡ refusedState
+unfolding openingRefusal termsFor
+refused-opening sheet (HeaderRead h) n = go (sheetPasses sheet) n
+  where
+    go : (t : Bool) → (_≡_ {A = ℕ} (pick t 0 10) 0 → ⊥) → emptyState (pick t (underSheet h sheet) refusedTerms) ≡ refusedState
+    go true m = absurd (m refl)
+    go false m = refl
+refused-opening sheet (HeaderRefusal k) n = refl
 
 refused-feeding : (s : State) (l : Line) → (feedingLine s l .refusal ≡ 0 → ⊥) → feedingLine s l .state ≡ s
 unfolding feedingLine bookAfter cellsAfter
@@ -95,16 +105,16 @@ cells-fit s h = cells-fit-64 (s .cells) (λ i. omega (arith, h .cells .each i, h
 pub demand1 : Demand1
 unfolding closingWith feedingLine
 demand1 = record {
-  opening-numbers = λ line. opening-number (headerOf line) (header-numbers line);
+  opening-numbers = λ sheet line. opening-number sheet (headerOf line) (header-numbers line);
   feeding-numbers = λ s line. feeding-number s (lineOf line) (line-numbers line);
   closing-numbers = λ b size. closing-number (tooFew (b .header) (b .sums .counts)) (ltb size reportSize);
   cells-numbers = λ b cells size. closing-number (tooFew (b .header) (b .sums .counts)) (ltb size cellsSize);
-  refused-opening = λ line. refused-opening (headerOf line);
+  refused-opening = λ sheet line. refused-opening sheet (headerOf line);
   refused-feeding = λ s line. refused-feeding s (lineOf line);
   refused-closing = λ b buffer n. untouched reportSize b (reportOf b) buffer n;
   refused-cells = λ b cells buffer n. untouched cellsSize b (cellsTextOf cells) buffer n;
   report-fits = report-fits;
   cells-fit = cells-fit;
-  opening-sound = λ line. feeding-laws.opening-sound (headerOf line) (ranged-header line);
+  opening-sound = λ sheet line. feeding-laws.opening-sound sheet (headerOf line) (ranged-header line);
   feeding-sound = λ s line h. feeding-laws.fed-sound s (lineOf line) h (ranged line);
 }

@@ -2,7 +2,7 @@
 use mathlib.Core.Path.{_≡_, refl, sym, ap, _∙_}
 use mathlib.Core.Bool.{Bool, true, false, true≢false, _||_}
 use mathlib.Core.List.{List}
-use mathlib.Core.Logic.{_⊎_, inl, inr, ⊎-elim}
+use mathlib.Core.Logic.{_↔_, _⊎_, inl, inr, ⊎-elim}
 use Prim.Native.Nat.{ℕ, _+_, _≤_, _<_}
 use native.Mathlib.Omega.{arith}
 use lib.Dec.{leb}
@@ -10,6 +10,8 @@ use borrow.Author.Tests.{leb-true, leb-false, le-leb, lt-leb}
 use Rattle.exact.specs.Choice.{pick}
 use Rattle.loan_charge.specs.declared.Score.{Score}
 use Rattle.loan_charge.specs.declared.Score.the-variants.{Scored, Unscored}
+use Rattle.sheet.specs.Sheet.{SheetRules, sheetPasses}
+use Rattle.sheet.proofs.Rules.{rules, passes}
 use Rattle.line_forms.specs.declared.Header.{Header}
 use Rattle.line_forms.specs.declared.Loan.{Loan}
 use Rattle.line_forms.specs.declared.Content.{Content}
@@ -26,11 +28,11 @@ use Rattle.line_forms.proofs.LineLaws.{line-reading, line-accepted, line-number
 use Rattle.line_forms.proofs.HeaderLaws.{header-reading, header-accepted, header-numbers}
 use Rattle.figures.specs.declared.Counts.{Counts}
 use Rattle.book_model.specs.Accepted.{Accepted, countsIn, mostOther, loanBeyond, refusalFor, refusalOf}
-use Rattle.book_model.specs.Calls.{Answer, emptyState, openingFor, opening, closingRefusal, reportSize, cellsSize}
-use Rattle.book_model.specs.Demand2.{OtherForm, Counted, OpeningAnswer, LoanFits, LoanBeyond, Fits, FeedingAnswer, ClosingAnswer, Demand2}
+use Rattle.book_model.specs.Calls.{Answer, emptyState, openingRefusal, openingFor, opening, closingRefusal, reportSize, cellsSize}
+use Rattle.book_model.specs.Demand2.{OtherForm, Counted, Opens, OpeningAnswer, LoanFits, LoanBeyond, Fits, FeedingAnswer, ClosingAnswer, Demand2}
 use Rattle.book_model.specs.History.{opened, allFed, termsOf, acceptedOf}
 use Rattle.book_model.specs.LineKinds.{LineKind, a-loan, another, refused, contentKind, kindOf, kindCounts, unscoredCount}
-use Rattle.book_model.specs.Terms.{Terms, termsWith}
+use Rattle.book_model.specs.Terms.{Terms, underSheet, refusedTerms, termsFor}
 use Rattle.book_model.proofs.BoundedShares.{unscored-most}
 use Rattle.book_model.proofs.Closings.{closes-6, closes-9, closes-0}
 use Rattle.book_model.proofs.Demand3.{demand3}
@@ -312,52 +314,106 @@ closing-answer least t a size = record {
 
 -- Opening
 
--- opening gives header reading's number
-opening-number : (l : HeaderLine) → openingFor l .refusal ≡ headerRefusal l
-unfolding openingFor
-opening-number (HeaderRead h) = refl
-opening-number (HeaderRefusal n) = refl
+-- A header's number other than 0 and 10 is opening's, whatever the sheet.
+same-number : (sheet : List ℕ) (l : HeaderLine) (n : ℕ) → (n ≡ 0 → ⊥) → (n ≡ 10 → ⊥) → (openingRefusal sheet l ≡ n) ↔ (headerRefusal l ≡ n)
+unfolding openingRefusal
+same-number sheet (HeaderRead h) n z x = (λ e. absurd (go (sheetPasses sheet) e), λ e. absurd (z (sym e)))
+  where
+    go : (t : Bool) → pick t 0 10 ≡ n → ⊥
+    go true e = z (sym e)
+    go false e = x (sym e)
+same-number sheet (HeaderRefusal k) n z x = (λ e. e, λ e. e)
 
--- a book opened is that of the header read
-opened-header : (l : HeaderLine) (h : Header) → ((n : ℕ) → l ≡ HeaderRefusal n → n ≡ 0 → ⊥) →
-    openingFor l ≡ record { refusal = 0; state = emptyState (termsWith h) } → l ≡ HeaderRead h
-unfolding openingFor
-opened-header (HeaderRead x) h b e = ap HeaderRead (ap (λ (o : Answer). o .state .book .header) e)
-opened-header (HeaderRefusal n) h b e = absurd (b n refl (ap (λ (o : Answer). o .refusal) e))
+-- a book opened is that of the header read, under a sheet that passes
+opened-header : (sheet : List ℕ) (l : HeaderLine) (h : Header) → ((n : ℕ) → l ≡ HeaderRefusal n → n ≡ 0 → ⊥) →
+    openingFor sheet l ≡ record { refusal = 0; state = emptyState (underSheet h sheet) } → (l ≡ HeaderRead h) × (sheetPasses sheet ≡ true)
+unfolding openingRefusal termsFor
+opened-header sheet (HeaderRead x) h b e =
+    go (sheetPasses sheet) (ap (λ (o : Answer). o .refusal) e) (ap (λ (o : Answer). o .state .book .header) e)
+  where
+    go : (t : Bool) → _≡_ {A = ℕ} (pick t 0 10) 0 → pick t (underSheet x sheet) refusedTerms .header ≡ h → (HeaderRead x ≡ HeaderRead h) × (t ≡ true)
+    go true f g = (ap HeaderRead g, refl)
+    go false f g = absurd (omega (arith, f))
+opened-header sheet (HeaderRefusal n) h b e = absurd (b n refl (ap (λ (o : Answer). o .refusal) e))
 
-opened-as : (s : List ℕ) (h : Header) → headerOf s ≡ HeaderRead h → opening s ≡ record { refusal = 0; state = emptyState (termsWith h) }
-unfolding openingFor
-opened-as s h e = ap openingFor e
+opened-as : (sheet s : List ℕ) (h : Header) → headerOf s ≡ HeaderRead h → sheetPasses sheet ≡ true →
+    opening sheet s ≡ record { refusal = 0; state = emptyState (underSheet h sheet) }
+unfolding openingRefusal termsFor
+opened-as sheet s h e p =
+    ap (openingFor sheet) e ∙ (λ i. record { refusal = pick (p i) 0 10; state = emptyState (pick (p i) (underSheet h sheet) refusedTerms) })
 
-not-zero : (n : ℕ) → (n ≡ 1) ⊎ (n ≡ 2) ⊎ (n ≡ 7) ⊎ (n ≡ 3) ⊎ (n ≡ 4) → n ≡ 0 → ⊥
-not-zero n k z =
-    ⊎-elim (λ (e : n ≡ 1). omega (arith, e, z))
-    (⊎-elim (λ (e : n ≡ 2). omega (arith, e, z)) (⊎-elim (λ (e : n ≡ 7). omega (arith, e, z))
-    (⊎-elim (λ (e : n ≡ 3). omega (arith, e, z)) (λ (e : n ≡ 4). omega (arith, e, z))))) k
+-- whether a header was read
+abbrev isRead : HeaderLine → Bool
+isRead (HeaderRead h) = true
+isRead (HeaderRefusal n) = false
 
-pub openings : (s : List ℕ) → OpeningAnswer s (opening s)
-openings s =
+-- 10 is the sheet's alone
+turned-down : (sheet : List ℕ) (l : HeaderLine) → ((n : ℕ) → l ≡ HeaderRefusal n → n ≡ 10 → ⊥) →
+    (openingRefusal sheet l ≡ 10) ↔ (((h : Header) × (l ≡ HeaderRead h)) × (sheetPasses sheet ≡ false))
+unfolding openingRefusal
+turned-down sheet (HeaderRead h) b = (λ e. ((h, refl), go (sheetPasses sheet) e), λ (k, e). rw e refl)
+  where
+    go : (t : Bool) → _≡_ {A = ℕ} (pick t 0 10) 10 → t ≡ false
+    go true e = absurd (omega (arith, e))
+    go false e = refl
+turned-down sheet (HeaderRefusal n) b = (λ e. absurd (b n refl e), λ ((h, k), e). absurd (true≢false (sym (ap isRead k))))
+
+-- a sheet fails exactly where it does not keep the rules
+breaks : (sheet : List ℕ) → (sheetPasses sheet ≡ false) ↔ (SheetRules sheet → ⊥)
+breaks sheet = (λ e r. true≢false (sym (passes sheet r) ∙ e), λ n. go n (sheetPasses sheet) refl)
+  where
+    go : (SheetRules sheet → ⊥) → (t : Bool) → sheetPasses sheet ≡ t → t ≡ false
+    go n true e = absurd (n (rules sheet e))
+    go n false e = refl
+
+-- the numbers of a header's refusal are neither 0 nor 10
+pub header-number : (n : ℕ) → (n ≡ 1) ⊎ (n ≡ 2) ⊎ (n ≡ 7) ⊎ (n ≡ 3) ⊎ (n ≡ 4) → (n ≡ 0 → ⊥) × (n ≡ 10 → ⊥)
+header-number n k =
+    ⊎-elim (out 1 (omega arith) (omega arith)) (⊎-elim (out 2 (omega arith) (omega arith)) (⊎-elim (out 7 (omega arith) (omega arith))
+    (⊎-elim (out 3 (omega arith) (omega arith)) (out 4 (omega arith) (omega arith))))) k
+  where
+    out : (x : ℕ) → 1 ≤ x → x ≤ 7 → n ≡ x → (n ≡ 0 → ⊥) × (n ≡ 10 → ⊥)
+    out x low high e = (λ z. omega (arith, e, z), λ z. omega (arith, e, z))
+
+-- what a header that is read shows
+opens-read : (s : List ℕ) (h : Header) → (headerOf s ≡ HeaderRead h) ↔ Opens s h
+opens-read s h = (
+  λ e. let (w, i, u, y) = header-accepted s h .0 e in (record { shows = record { writable = w; bytes = y }; in-range = i }, u),
+  λ (k, u). header-accepted s h .1 (k .shows .writable, k .in-range, u, k .shows .bytes),
+)
+
+pub openings : (sheet s : List ℕ) → OpeningAnswer sheet s (opening sheet s)
+openings sheet s =
     let r : HeaderReading s (headerOf s) = header-reading s in
-    let n : opening s .refusal ≡ headerRefusal (headerOf s) = opening-number (headerOf s) in
+    let n1 = same-number sheet (headerOf s) 1 (λ e. omega (arith, e)) (λ e. omega (arith, e)) in
+    let n2 = same-number sheet (headerOf s) 2 (λ e. omega (arith, e)) (λ e. omega (arith, e)) in
+    let n7 = same-number sheet (headerOf s) 7 (λ e. omega (arith, e)) (λ e. omega (arith, e)) in
+    let n3 = same-number sheet (headerOf s) 3 (λ e. omega (arith, e)) (λ e. omega (arith, e)) in
+    let n4 = same-number sheet (headerOf s) 4 (λ e. omega (arith, e)) (λ e. omega (arith, e)) in
+    let n10 = turned-down sheet (headerOf s) (λ m f. header-number m (header-numbers s m f) .1) in
     record {
       opens = λ h. (
-        λ e. let k = header-accepted s h .0 (opened-header (headerOf s) h (λ m f. not-zero m (header-numbers s m f)) e) in
-            (record { shows = record { writable = k .0; bytes = k .3 }; in-range = k .1 }, k .2),
-        λ (k, u). opened-as s h (header-accepted s h .1 (k .shows .writable, k .in-range, u, k .shows .bytes)),
+        λ e. let (k, p) = opened-header sheet (headerOf s) h (λ m f. header-number m (header-numbers s m f) .0) e in
+            (opens-read s h .0 k, rules sheet p),
+        λ (k, p). opened-as sheet s h (opens-read s h .1 k) (passes sheet p),
       );
-      number-1 = (λ e. r .refused1 .0 (sym n ∙ e), λ e. n ∙ r .refused1 .1 e);
-      number-2 = (λ e. r .refused2 .0 (sym n ∙ e), λ e. n ∙ r .refused2 .1 e);
+      number-1 = (λ e. r .refused1 .0 (n1 .0 e), λ e. n1 .1 (r .refused1 .1 e));
+      number-2 = (λ e. r .refused2 .0 (n2 .0 e), λ e. n2 .1 (r .refused2 .1 e));
       number-7 = (
-        λ e. let (c, a, w, y) = r .refused7 .0 (sym n ∙ e) in (c, a, record { writable = w; bytes = y }),
-        λ (c, a, k). n ∙ r .refused7 .1 (c, a, k .writable, k .bytes),
+        λ e. let (c, a, w, y) = r .refused7 .0 (n7 .0 e) in (c, a, record { writable = w; bytes = y }),
+        λ (c, a, k). n7 .1 (r .refused7 .1 (c, a, k .writable, k .bytes)),
       );
       number-3 = (
-        λ e. let (h, w, i, y) = r .refused3 .0 (sym n ∙ e) in (h, record { writable = w; bytes = y }, i),
-        λ (h, k, i). n ∙ r .refused3 .1 (h, k .writable, i, k .bytes),
+        λ e. let (h, w, i, y) = r .refused3 .0 (n3 .0 e) in (h, record { writable = w; bytes = y }, i),
+        λ (h, k, i). n3 .1 (r .refused3 .1 (h, k .writable, i, k .bytes)),
       );
       number-4 = (
-        λ e. let (h, w, i, u, y) = r .refused4 .0 (sym n ∙ e) in (h, record { shows = record { writable = w; bytes = y }; in-range = i }, u),
-        λ (h, k, u). n ∙ r .refused4 .1 (h, k .shows .writable, k .in-range, u, k .shows .bytes),
+        λ e. let (h, w, i, u, y) = r .refused4 .0 (n4 .0 e) in (h, record { shows = record { writable = w; bytes = y }; in-range = i }, u),
+        λ (h, k, u). n4 .1 (r .refused4 .1 (h, k .shows .writable, k .in-range, u, k .shows .bytes)),
+      );
+      number-10 = (
+        λ e. let ((h, k), f) = n10 .0 e in ((h, opens-read s h .0 k), breaks sheet .0 f),
+        λ ((h, k), f). n10 .1 ((h, opens-read s h .1 k), breaks sheet .1 f),
       );
     }
 
@@ -365,13 +421,13 @@ pub demand2 : Demand2
 demand2 = record {
   openings = openings;
   counted = counted;
-  feedings = λ header lines s.
-      let a : Accepted = acceptedOf (allFed (opened header) lines) in
-      rw (demand3 header lines .closes .answers s) (feeding-answer (termsOf (opened header)) a s);
-  closings = λ header lines size.
-      let a : Accepted = acceptedOf (allFed (opened header) lines) in
-      rw (demand3 header lines .closes .report .refusal size) (closing-answer reportSize (termsOf (opened header)) a size);
-  cells-closings = λ header lines size.
-      let a : Accepted = acceptedOf (allFed (opened header) lines) in
-      rw (loan-table .closes header lines .refusal size) (closing-answer cellsSize (termsOf (opened header)) a size);
+  feedings = λ sheet header lines s.
+      let a : Accepted = acceptedOf (allFed (opened sheet header) lines) in
+      rw (demand3 sheet header lines .closes .answers s) (feeding-answer (termsOf (opened sheet header)) a s);
+  closings = λ sheet header lines size.
+      let a : Accepted = acceptedOf (allFed (opened sheet header) lines) in
+      rw (demand3 sheet header lines .closes .report .refusal size) (closing-answer reportSize (termsOf (opened sheet header)) a size);
+  cells-closings = λ sheet header lines size.
+      let a : Accepted = acceptedOf (allFed (opened sheet header) lines) in
+      rw (loan-table .closes sheet header lines .refusal size) (closing-answer cellsSize (termsOf (opened sheet header)) a size);
 }

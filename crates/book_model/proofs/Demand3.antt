@@ -13,10 +13,7 @@ use Rattle.exact.specs.Choice.{pick}
 use Rattle.exact.specs.Fraction.{whole, _⊕_, _≼_, _≺_}
 use Rattle.exact.specs.Quantity.{Eventually}
 use Rattle.exact.proofs.Quantities.{at-every-order, mapped, some-allowed}
-use Rattle.loan_charge.specs.CreditFactor.{builtInRates, RatesInRange}
-use Rattle.loan_charge.proofs.CreditLaws.{built-in}
-use Rattle.line_forms.specs.declared.HeaderLine.{HeaderLine}
-use Rattle.line_forms.specs.declared.HeaderLine.the-variants.{Header as HeaderRead, Refusal as HeaderRefusal}
+use Rattle.loan_charge.specs.CreditFactor.{RatesInRange}
 use Rattle.line_forms.specs.Claims.{lineContent}
 use Rattle.line_forms.specs.Readings.{lineOf, headerOf}
 use Rattle.figures.specs.declared.Counts.{Counts}
@@ -30,19 +27,21 @@ use Rattle.report.proofs.Decimal.{digits-value, signed-whole}
 use Rattle.book_report.specs.Report.{unsigned, valueLine, ratioLine, headText, reportText}
 use Rattle.book_model.specs.declared.Book.{Book}
 use Rattle.book_model.specs.Accepted.{Accepted, noneAccepted, countsIn, refusalOf, accept}
-use Rattle.book_model.specs.Calls.{State, Answer, stateAt, emptyBook, openingFor, opening, feeding, zeroHeader, closingRefusal}
+use Rattle.book_model.specs.Calls.{State, Answer, stateAt, emptyBook, opening, feeding, closingRefusal}
 use Rattle.book_model.specs.Calls.{closingWith, closedWith, reportSize, reportOf}
 use Rattle.book_model.specs.Demand3.{figuresFor, reportFor, afterLines, hundredthsPerLoan, allowance, Writes, Closes, Measured, SameTexts}
 use Rattle.book_model.specs.Demand3.{SameReports, Demand3}
 use Rattle.book_model.specs.Exact.{requirement}
-use Rattle.book_model.specs.History.{History, opened, fed, headerIn, allFed, termsOf, acceptedOf, linesTaken, sumsOf}
+use Rattle.book_model.specs.History.{History, opened, fed, allFed, termsOf, acceptedOf, linesTaken, sumsOf}
 use Rattle.book_model.specs.Share.{share}
-use Rattle.book_model.specs.Terms.{Terms, termsWith}
+use Rattle.book_model.specs.Terms.{Terms, termsFor}
 use Rattle.book_model.proofs.Bounds.{Near}
 use Rattle.book_model.proofs.Closings.{untouched, writes, tells}
 use Rattle.book_model.proofs.Dependence.{requirement-determined}
 use Rattle.book_model.proofs.ExactSums.{rest-sum, moved-sum, rounded-is}
+use Rattle.book_model.proofs.Feeding.{opening-sound}
 use Rattle.book_model.proofs.Near.{rates-chargeable}
+use Rattle.book_model.proofs.Ranged.{ranged-header}
 use Rattle.book_model.proofs.Required.{requiredFor, near, list-exponents}
 use Rattle.book_model.proofs.Steps.{bookOf, stateOf, counts, step}
 use Rattle.book_model.proofs.Tables.{no-cells}
@@ -66,13 +65,9 @@ chain past [] = refl
 chain past (s ∷ lines) = ap (λ (x : State). afterLines x lines) (fed-is past s) ∙ chain (fed past s) lines
 
 -- the state just opened has no line taken
-pub opened-is : (header : List ℕ) → opening header .state ≡ stateOf (termsOf (opened header)) (acceptedOf (opened header))
-unfolding openingFor headerIn sumsOf sumOf termsOf acceptedOf
-opened-is header = go (headerOf header)
-  where
-    go : (l : HeaderLine) → openingFor l .state ≡ stateOf (termsWith (headerIn l)) noneAccepted
-    go (HeaderRead h) = ap (stateAt (emptyBook h) builtInRates) (no-cells (termsWith h))
-    go (HeaderRefusal n) = ap (stateAt (emptyBook zeroHeader) builtInRates) (no-cells (termsWith zeroHeader))
+pub opened-is : (sheet header : List ℕ) → opening sheet header .state ≡ stateOf (termsOf (opened sheet header)) (acceptedOf (opened sheet header))
+unfolding sumsOf sumOf termsOf acceptedOf
+opened-is sheet header = let t = termsFor sheet (headerOf header) in ap (stateAt (emptyBook (t .header)) (t .rates)) (no-cells t)
 
 -- the terms of a list of lines are those of its header
 pub terms-stay : (past : History) (lines : List (List ℕ)) → termsOf (allFed past lines) ≡ termsOf past
@@ -80,16 +75,16 @@ unfolding allFed
 terms-stay past [] = refl
 terms-stay past (s ∷ lines) = terms-stay (fed past s) lines ∙ one-more past s .0
 
-pub after-is : (header : List ℕ) (lines : List (List ℕ)) →
-    afterLines (opening header .state) lines ≡ stateOf (termsOf (opened header)) (acceptedOf (allFed (opened header) lines))
-after-is header lines =
-    ap (λ (x : State). afterLines x lines) (opened-is header) ∙ chain (opened header) lines
-    ∙ ap (λ (t : Terms). stateOf t (acceptedOf (allFed (opened header) lines))) (terms-stay (opened header) lines)
+pub after-is : (sheet header : List ℕ) (lines : List (List ℕ)) →
+    afterLines (opening sheet header .state) lines ≡ stateOf (termsOf (opened sheet header)) (acceptedOf (allFed (opened sheet header) lines))
+after-is sheet header lines =
+    ap (λ (x : State). afterLines x lines) (opened-is sheet header) ∙ chain (opened sheet header) lines
+    ∙ ap (λ (t : Terms). stateOf t (acceptedOf (allFed (opened sheet header) lines))) (terms-stay (opened sheet header) lines)
 
 -- every history is opened under rates in range
 pub terms-in-range : (past : History) → RatesInRange (termsOf past .rates)
 unfolding termsOf
-terms-in-range (opened header) = built-in
+terms-in-range (opened sheet header) = opening-sound sheet (headerOf header) (ranged-header header) .rates
 terms-in-range (fed past line) = terms-in-range past
 
 -- The report
@@ -215,11 +210,11 @@ report-permuted t p = ap (λ (s : Sums). reportOf (record { header = t .header; 
 pub same-reports : (t : Terms) {kept others : List (List ℕ)} → List·Permᴰ kept others → SameReports (bookOf t kept) (bookOf t others)
 same-reports t {kept} {others} p = same-texts reportSize (bookOf t kept) (bookOf t others) (report-permuted t p)
 
-pub demand3 : (header : List ℕ) (lines : List (List ℕ)) → Demand3 header lines
-demand3 header lines =
-    let t : Terms = termsOf (opened header) in
+pub demand3 : (sheet header : List ℕ) (lines : List (List ℕ)) → Demand3 sheet header lines
+demand3 sheet header lines =
+    let t : Terms = termsOf (opened sheet header) in
     record {
-      closes = rw (after-is header lines) (closes-of t (acceptedOf (allFed (opened header) lines)));
-      measured = measured-of t (terms-in-range (opened header)) (linesTaken (allFed (opened header) lines));
-      alike = λ others p. rw (after-is header lines, after-is header others) (same-reports t p);
+      closes = rw (after-is sheet header lines) (closes-of t (acceptedOf (allFed (opened sheet header) lines)));
+      measured = measured-of t (terms-in-range (opened sheet header)) (linesTaken (allFed (opened sheet header) lines));
+      alike = λ others p. rw (after-is sheet header lines, after-is sheet header others) (same-reports t p);
     }

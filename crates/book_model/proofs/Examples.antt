@@ -5,7 +5,9 @@ use native.Mathlib.Omega.{arith}
 use Rattle.exact.specs.Fraction.{ceiling}
 use Rattle.exact.proofs.Examples as exact
 use Rattle.coefficients.proofs.Examples as coefficients
+use Rattle.loan_charge.specs.CreditFactor.{builtInSheet}
 use Rattle.loan_charge.proofs.Examples as loan
+use Rattle.sheet.specs.Sheet.{placePasses, placesPass, sheetPasses}
 use Rattle.other_charges.proofs.Examples as other
 use Rattle.line_forms.specs.Bytes.{allWithin, runOf, same, after}
 use Rattle.line_forms.specs.Numerals.{isNumeral}
@@ -22,35 +24,38 @@ use Rattle.book_model.specs.LineKinds.{contentKind, kindCounts}
 use Rattle.book_model.specs.Accepted.{countsIn, refusalFor, accept}
 use Rattle.book_model.specs.Exact.{exactAmount, exactShare, sumOver}
 use Rattle.book_report.specs.Report.{ratioLine, reportText}
-use Rattle.book_model.specs.History.{headerIn, termsOf, acceptedOf, allFed, sumsOf, opened, linesTaken}
-use Rattle.book_model.specs.Calls.{openingFor, opening, closing}
+use Rattle.book_model.specs.History.{termsOf, acceptedOf, allFed, sumsOf, opened, linesTaken}
+use Rattle.book_model.specs.Calls.{openingRefusal, opening, closing}
 use Rattle.book_model.specs.Demand3.{figuresFor, reportFor, afterLines}
+use Rattle.book_model.specs.Terms.{termsFor}
 use Rattle.book_model.specs.Examples.{workedHeader, workedLines, workedReport, TwelveExamples}
 use Rattle.book_model.proofs.Demand2.{demand2}
 
-taken : linesTaken (allFed (opened workedHeader) workedLines) ≡ workedLines
+taken : linesTaken (allFed (opened builtInSheet workedHeader) workedLines) ≡ workedLines
 unfolding allWithin runOf same after isNumeral valueFrom headerInRange moneyInRange assetInRange amountInRange numberAt afterNumber afterNegative signedAt
     afterSigned placeOf afterWord headerHeld assetHeld plainHeld signedHeld amountHeld contentOf lineFor lineOf headerFor headerOf contentKind kindCounts
-    countsIn refusalFor accept headerIn termsOf acceptedOf allFed
+    countsIn refusalFor accept termsFor termsOf acceptedOf allFed builtInSheet placePasses placesPass sheetPasses
 taken = refl
 
-opens : opening workedHeader .refusal ≡ 0
-unfolding allWithin runOf same after isNumeral valueFrom headerInRange numberAt afterNumber placeOf afterWord headerHeld contentOf headerFor headerOf openingFor
+opens : opening builtInSheet workedHeader .refusal ≡ 0
+unfolding allWithin runOf same after isNumeral valueFrom headerInRange numberAt afterNumber placeOf afterWord headerHeld contentOf headerFor headerOf openingRefusal
+    builtInSheet placePasses placesPass sheetPasses
 opens = refl
 
 -- the header counts no loan
-pub counts-none : (termsOf (opened workedHeader) .header .loans ≡ 0) × (termsOf (opened workedHeader) .header .unscored ≡ 0)
-unfolding allWithin runOf same after isNumeral valueFrom headerInRange numberAt afterNumber placeOf afterWord headerHeld contentOf headerFor headerOf headerIn
-    termsOf
+pub counts-none : (termsOf (opened builtInSheet workedHeader) .header .loans ≡ 0) × (termsOf (opened builtInSheet workedHeader) .header .unscored ≡ 0)
+unfolding allWithin runOf same after isNumeral valueFrom headerInRange numberAt afterNumber placeOf afterWord headerHeld contentOf headerFor headerOf termsFor
+    termsOf builtInSheet placePasses placesPass sheetPasses
 counts-none = (refl, refl)
 
-closes : (size : ℕ) → 512 ≤ size → closing (afterLines (opening workedHeader .state) workedLines .book) size .refusal ≡ 0
-closes size h = demand2 .closings workedHeader workedLines size .writes .1 (omega (arith, counts-none .0), omega (arith, counts-none .1), h)
+closes : (size : ℕ) → 512 ≤ size → closing (afterLines (opening builtInSheet workedHeader .state) workedLines .book) size .refusal ≡ 0
+closes size h = demand2 .closings builtInSheet workedHeader workedLines size .writes .1 (omega (arith, counts-none .0), omega (arith, counts-none .1), h)
 
 -- the report of the four lines
-worked : reportFor (termsOf (opened workedHeader)) workedLines ≡ workedReport
+worked : reportFor (termsOf (opened builtInSheet workedHeader)) workedLines ≡ workedReport
 unfolding allWithin runOf same after isNumeral valueFrom headerInRange moneyInRange assetInRange amountInRange numberAt afterNumber afterNegative signedAt
-    afterSigned placeOf afterWord headerHeld assetHeld plainHeld signedHeld amountHeld contentOf lineFor lineOf headerFor headerOf headerIn termsOf
+    afterSigned placeOf afterWord headerHeld assetHeld plainHeld signedHeld amountHeld contentOf lineFor lineOf headerFor headerOf termsFor termsOf
+    builtInSheet placePasses placesPass sheetPasses
     ceiling assetCharge shareCharge exactAmount exactShare sumOver kindCounts contentKind share assetShare amountShare sumOf sumsOf requiredOf admitted
     capitalOf ratioSize ratioOf figuresFor reportFor ratioLine reportText leading digits signed
 worked = refl
@@ -72,5 +77,5 @@ twelve =
       opens12 = opens;
       taken12 = taken;
       closes12 = closes;
-      example12 = ap (reportFor (termsOf (opened workedHeader))) taken ∙ worked;
+      example12 = ap (reportFor (termsOf (opened builtInSheet workedHeader))) taken ∙ worked;
     }

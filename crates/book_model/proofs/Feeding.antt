@@ -11,6 +11,9 @@ use Rattle.loan_charge.specs.CreditFactor.{RatesInRange}
 use Rattle.loan_charge.specs.declared.Score.{Score}
 use Rattle.loan_charge.specs.declared.Score.the-variants.{Scored, Unscored}
 use Rattle.loan_charge.proofs.CreditLaws.{built-in}
+use Rattle.sheet.specs.Sheet.{sheetPasses}
+use Rattle.sheet.proofs.Loading.{in-range}
+use Rattle.sheet.proofs.Rules.{rules}
 use Rattle.line_forms.specs.declared.Content.{Content}
 use Rattle.line_forms.specs.declared.Header.{Header}
 use Rattle.line_forms.specs.declared.HeaderLine.{HeaderLine}
@@ -25,13 +28,13 @@ use Rattle.figures.specs.Sums.{Bounded, InLimits, countsSum, plus, noSums}
 use Rattle.figures.proofs.SumsLaws.{plus-bounded, none-bounded, plus-none}
 use Rattle.book_model.specs.declared.Book.{Book}
 use Rattle.book_model.specs.Accepted.{mostOther, loanBeyond, refusalFor}
-use Rattle.book_model.specs.Calls.{State, Answer, stateAt, termsIn, zeroHeader, emptyBook, openingFor, refusalIn, bookAfter, cellsAfter, feedingLine}
+use Rattle.book_model.specs.Calls.{State, Answer, stateAt, termsIn, emptyBook, emptyState, openingFor, refusalIn, bookAfter, cellsAfter, feedingLine}
 use Rattle.book_model.specs.Calls.{SoundBook, Sound}
 use Rattle.book_model.specs.Cells.{loanBand, loanLtv, loanCell, withCell, cellsWith, CellsBounded}
 use Rattle.book_model.specs.LineKinds.{LineKind, a-loan, another, refused, contentKind, kindOf, kindCounts, unscoredCount}
 use Rattle.book_model.specs.Ranges.{LoanRanges, CellRanges, Ranged, HeaderRanges, RangedHeader}
 use Rattle.book_model.specs.Share.{loanShare, share}
-use Rattle.book_model.specs.Terms.{Terms, under}
+use Rattle.book_model.specs.Terms.{Terms, under, underSheet, refusedTerms, termsFor}
 use Rattle.cell_report.specs.CellReport.{placeOf}
 use Rattle.book_model.proofs.BoundedShares.{loan-bounded, share-bounded, counted}
 use Rattle.book_model.proofs.Cells.{Held, a-loan as held-loan, no-loan, held, bounded-wider, cell-more, none-bounded as no-cells-bounded}
@@ -51,15 +54,21 @@ empty-sound h r =
       held = r .held;
     }
 
-pub opening-sound : (l : HeaderLine) → RangedHeader l → Sound (openingFor l .state)
-unfolding openingFor
-opening-sound (HeaderRead h) r = record { book = empty-sound h r; rates = built-in; cells = no-cells-bounded 0 }
-opening-sound (HeaderRefusal n) r =
-    record {
-      book = empty-sound zeroHeader (record { loans = omega arith; unscored = omega arith; held = omega arith });
-      rates = built-in;
-      cells = no-cells-bounded 0;
-    }
+-- just opened under rates in range
+empty-state : (t : Terms) → HeaderRanges (t .header) → RatesInRange (t .rates) → Sound (emptyState t)
+empty-state t h r = record { book = empty-sound (t .header) h; rates = r; cells = no-cells-bounded 0 }
+
+pub refused-sound : Sound (emptyState refusedTerms)
+refused-sound = empty-state refusedTerms (record { loans = omega arith; unscored = omega arith; held = omega arith }) built-in
+
+pub opening-sound : (sheet : List ℕ) (l : HeaderLine) → RangedHeader l → Sound (openingFor sheet l .state)
+unfolding termsFor
+opening-sound sheet (HeaderRead h) r = go (sheetPasses sheet) refl
+  where
+    go : (t : Bool) → sheetPasses sheet ≡ t → Sound (emptyState (pick t (underSheet h sheet) refusedTerms))
+    go true e = empty-state (underSheet h sheet) r (in-range sheet (rules sheet e))
+    go false e = refused-sound
+opening-sound sheet (HeaderRefusal n) r = refused-sound
 
 -- Feeding
 

@@ -364,8 +364,8 @@ loan-table = record {
   bands = bands;
   columns = columns;
   adds = cell-adds;
-  cells = λ header lines. rw (after-is header lines) (cell-is (termsOf (opened header)) (linesTaken (allFed (opened header) lines)));
-  closes = λ header lines. rw (after-is header lines) (cells-written (termsOf (opened header)) (acceptedOf (allFed (opened header) lines)));
-  sums = λ header lines. cell-sums (termsOf (opened header)) (linesTaken (allFed (opened header) lines));
-  alike = λ header lines others p. rw (after-is header lines, after-is header others) (same-tables (termsOf (opened header)) p);
+  cells = λ sheet header lines. rw (after-is sheet header lines) (cell-is (termsOf (opened sheet header)) (linesTaken (allFed (opened sheet header) lines)));
+  closes = λ sheet header lines. rw (after-is sheet header lines) (cells-written (termsOf (opened sheet header)) (acceptedOf (allFed (opened sheet header) lines)));
+  sums = λ sheet header lines. cell-sums (termsOf (opened sheet header)) (linesTaken (allFed (opened sheet header) lines));
+  alike = λ sheet header lines others p. rw (after-is sheet header lines, after-is sheet header others) (same-tables (termsOf (opened sheet header)) p);
 }

@@ -1,5 +1,6 @@
 -- Which lines a book takes: document 01's ledger, here the accepted lines. It is given what the book is opened under and the lines in turn,
--- no answer and nothing of a book.
+-- no answer and nothing of a book. From request L3 on the forms and ranges of the requests of 02 that have landed count as document 01's,
+-- and a line is added only where no refusal named in them applies. Up to now none of these meets a line.
 use Prim.Native.Nat.{ℕ}
 use mathlib.Core.Bool.{Bool, _&&_, _||_}
 use mathlib.Core.List.{List, [], _∷_, _++_}

@@ -1,6 +1,6 @@
 -- Opening, feeding and closing a book as functions: the contracts of the calls equate their answers with these.
 use Prim.Native.Nat.{ℕ, _*_, _≤_}
-use mathlib.Core.Bool.{Bool, false, _||_}
+use mathlib.Core.Bool.{Bool, _||_}
 use mathlib.Core.List.{List}
 use lib.Dec.{ltb, eqb}
 use lib.ListN.{length}
@@ -13,6 +13,7 @@ use Rattle.line_forms.specs.declared.Line.{Line}
 use Rattle.line_forms.specs.Claims.{lineContent}
 use Rattle.line_forms.specs.Readings.{lineOf, headerOf}
 use Rattle.loan_charge.specs.CreditFactor.{RatesInRange}
+use Rattle.sheet.specs.Sheet.{sheetPasses}
 use Rattle.figures.specs.declared.Counts.{Counts}
 use Rattle.figures.specs.declared.Sums.{Sums}
 use Rattle.figures.specs.Figures.{figuresOf}
@@ -28,7 +29,7 @@ use Rattle.book_model.specs.Accepted.{mostOther, refusalFor}
 use Rattle.book_model.specs.Cells.{noCells, cellsWith, CellsBounded}
 use Rattle.book_model.specs.LineKinds.{kindOf}
 use Rattle.book_model.specs.Share.{share}
-use Rattle.book_model.specs.Terms.{Terms, under, termsWith}
+use Rattle.book_model.specs.Terms.{Terms, under, termsFor}
 
 -- A book as the calls have it: what goes by value, and the tables lent with it.
 pub record State : Type 0 where
@@ -56,10 +57,6 @@ fedOf a = record { refusal = a .refusal; book = a .state .book }
 
 -- Opening
 
--- the all-zero header, under which the value of a refused opening stands
-abbrev pub zeroHeader : Header
-zeroHeader = record { loans = 0; unscored = 0; aged = false; held = 0 }
-
 -- just opened, with no line taken
 abbrev pub emptyBook : Header → Book
 emptyBook h = record { header = h; sums = noSums }
@@ -67,13 +64,17 @@ emptyBook h = record { header = h; sums = noSums }
 abbrev pub emptyState : Terms → State
 emptyState t = stateAt (emptyBook (t .header)) (t .rates) noCells
 
--- A refused opening gives the value of an all-zero header.
-unfoldable pub openingFor : HeaderLine → Answer
-openingFor (HeaderRead h) = record { refusal = 0; state = emptyState (termsWith h) }
-openingFor (HeaderRefusal n) = record { refusal = n; state = emptyState (termsWith zeroHeader) }
+-- Its refusal, 0 for none: the header's first; then 10, where the sheet of factors lent breaks a rule (02, L3).
+unfoldable pub openingRefusal : (sheet : List ℕ) → HeaderLine → ℕ
+openingRefusal sheet (HeaderRead h) = pick (sheetPasses sheet) 0 10
+openingRefusal sheet (HeaderRefusal n) = n
 
-abbrev pub opening : List ℕ → Answer
-opening line = openingFor (headerOf line)
+abbrev pub openingFor : (sheet : List ℕ) → HeaderLine → Answer
+openingFor sheet l = record { refusal = openingRefusal sheet l; state = emptyState (termsFor sheet l) }
+
+-- Without a sheet the one lent is the regulator's table, builtInSheet.
+abbrev pub opening : (sheet line : List ℕ) → Answer
+opening sheet line = openingFor sheet (headerOf line)
 
 -- Feeding
 

@@ -20,14 +20,14 @@ refusedState = record {
 }
 
 pub record Demand1 : Type 0 where
-  -- The answer is 0, or the number of a refusal that document 01 names for the call.
-  pub opening-numbers : (line : List ℕ) → List·Memᴰ (opening line .refusal) (0 ∷ 1 ∷ 2 ∷ 7 ∷ 3 ∷ 4 ∷ [])
+  -- The answer is 0, or the number of a refusal that document 01, or a request of 02, names for the call.
+  pub opening-numbers : (sheet line : List ℕ) → List·Memᴰ (opening sheet line .refusal) (0 ∷ 1 ∷ 2 ∷ 7 ∷ 3 ∷ 4 ∷ 10 ∷ [])
   pub feeding-numbers : (s : State) (line : List ℕ) → List·Memᴰ (feeding s line .refusal) (0 ∷ 1 ∷ 2 ∷ 7 ∷ 3 ∷ 5 ∷ 8 ∷ [])
   pub closing-numbers : (b : Book) (size : ℕ) → List·Memᴰ (closing b size .refusal) (0 ∷ 6 ∷ 9 ∷ [])
   pub cells-numbers : (b : Book) (cells : List ℕ) (size : ℕ) → List·Memᴰ (closingCells b cells size .refusal) (0 ∷ 6 ∷ 9 ∷ [])
   -- Refused, an opening gives no book but the value above, a feeding the same state, every place of its tables included, and a closing
   -- leaves every byte.
-  pub refused-opening : (line : List ℕ) → (opening line .refusal ≡ 0 → ⊥) → opening line .state ≡ refusedState
+  pub refused-opening : (sheet line : List ℕ) → (opening sheet line .refusal ≡ 0 → ⊥) → opening sheet line .state ≡ refusedState
   pub refused-feeding : (s : State) (line : List ℕ) → (feeding s line .refusal ≡ 0 → ⊥) → feeding s line .state ≡ s
   pub refused-closing : (b : Book) (buffer : List ℕ) → (closing b (length buffer) .refusal ≡ 0 → ⊥) → closed b buffer ≡ buffer
   pub refused-cells : (b : Book) (cells buffer : List ℕ) → (closingCells b cells (length buffer) .refusal ≡ 0 → ⊥) →
@@ -36,5 +36,5 @@ pub record Demand1 : Type 0 where
   pub report-fits : (b : Book) → SoundBook b → length (reportOf b) ≤ 512
   pub cells-fit : (s : State) → Sound s → length (cellsTextOf (s .cells)) ≤ 8192
   -- What a call gives may be handed to the next.
-  pub opening-sound : (line : List ℕ) → Sound (opening line .state)
+  pub opening-sound : (sheet line : List ℕ) → Sound (opening sheet line .state)
   pub feeding-sound : (s : State) (line : List ℕ) → Sound s → Sound (feeding s line .state)

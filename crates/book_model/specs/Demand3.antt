@@ -90,10 +90,11 @@ SameTexts answer left other left-other =
 abbrev pub SameReports : Book → Book → Type 0
 SameReports b c = SameTexts (closing b) (closed b) (closing c) (closed c)
 
--- The claim, for a header line and a list of lines. (A header that is refused gives the value of an all-zero header, of which it holds too.)
-pub record Demand3 (header : List ℕ) (lines : List (List ℕ)) : Type 0 where
-  pub closes : Closes (termsOf (opened header)) (acceptedOf (allFed (opened header) lines)) (afterLines (opening header .state) lines)
-  pub measured : Measured (termsOf (opened header)) (linesTaken (allFed (opened header) lines))
-  -- the same lines taken, each as often, in whatever order: reports alike byte for byte
-  pub alike : (others : List (List ℕ)) → List·Permᴰ (linesTaken (allFed (opened header) lines)) (linesTaken (allFed (opened header) others)) →
-      SameReports (afterLines (opening header .state) lines .book) (afterLines (opening header .state) others .book)
+-- The claim, for a sheet of factors, a header line and a list of lines: the exact requirement is the one with that sheet. (An opening that
+-- is refused gives the value of an all-zero header under the regulator's table, of which it holds too.)
+pub record Demand3 (sheet header : List ℕ) (lines : List (List ℕ)) : Type 0 where
+  pub closes : Closes (termsOf (opened sheet header)) (acceptedOf (allFed (opened sheet header) lines)) (afterLines (opening sheet header .state) lines)
+  pub measured : Measured (termsOf (opened sheet header)) (linesTaken (allFed (opened sheet header) lines))
+  -- the same lines taken under the same sheet, each as often, in whatever order: reports alike byte for byte
+  pub alike : (others : List (List ℕ)) → List·Permᴰ (linesTaken (allFed (opened sheet header) lines)) (linesTaken (allFed (opened sheet header) others)) →
+      SameReports (afterLines (opening sheet header .state) lines .book) (afterLines (opening sheet header .state) others .book)

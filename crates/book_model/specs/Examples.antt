@@ -5,6 +5,7 @@ use mathlib.Core.List.{List, [], _∷_, _++_}
 use Rattle.exact.specs.Text.{text}
 use Rattle.exact.specs.Examples.{Example1}
 use Rattle.coefficients.specs.Examples.{Example2, Example3, Example4}
+use Rattle.loan_charge.specs.CreditFactor.{builtInSheet}
 use Rattle.loan_charge.specs.Examples.{Example5, Example6, Example7}
 use Rattle.other_charges.specs.Examples.{Example8, Example9}
 use Rattle.figures.specs.Figures.{positiveEquity, admittedB, admittedC}
@@ -53,7 +54,7 @@ pub record TwelveExamples : Type 0 where
   -- equity 9,300, c 1,000: 700
   pub example11 : admittedC (positiveEquity (record { plus = 9300; minus = 0 })) 0 1000 ≡ 700
   -- The worked input: its header opens a book, all its lines are taken, closing is not refused, and its report is the worked one.
-  pub opens12 : opening workedHeader .refusal ≡ 0
-  pub taken12 : linesTaken (allFed (opened workedHeader) workedLines) ≡ workedLines
-  pub closes12 : (size : ℕ) → 512 ≤ size → closing (afterLines (opening workedHeader .state) workedLines .book) size .refusal ≡ 0
-  pub example12 : reportFor (termsOf (opened workedHeader)) (linesTaken (allFed (opened workedHeader) workedLines)) ≡ workedReport
+  pub opens12 : opening builtInSheet workedHeader .refusal ≡ 0
+  pub taken12 : linesTaken (allFed (opened builtInSheet workedHeader) workedLines) ≡ workedLines
+  pub closes12 : (size : ℕ) → 512 ≤ size → closing (afterLines (opening builtInSheet workedHeader .state) workedLines .book) size .refusal ≡ 0
+  pub example12 : reportFor (termsOf (opened builtInSheet workedHeader)) (linesTaken (allFed (opened builtInSheet workedHeader) workedLines)) ≡ workedReport

@@ -1,35 +1,31 @@
 -- What was handed to the calls: no answers and nothing of a book.
 use Prim.Native.Nat.{ℕ}
 use mathlib.Core.List.{List, [], _∷_, map}
-use Rattle.line_forms.specs.declared.Header.{Header}
-use Rattle.line_forms.specs.declared.HeaderLine.{HeaderLine}
-use Rattle.line_forms.specs.declared.HeaderLine.the-variants.{Header as HeaderRead, Refusal as HeaderRefusal}
 use Rattle.line_forms.specs.Claims.{lineContent}
 use Rattle.line_forms.specs.Readings.{lineOf, headerOf}
 use Rattle.figures.specs.declared.Sums.{Sums}
 use Rattle.figures.specs.Sums.{sumOf}
 use Rattle.book_model.specs.Accepted.{Accepted, noneAccepted, accept}
-use Rattle.book_model.specs.Calls.{zeroHeader}
 use Rattle.book_model.specs.Share.{share}
-use Rattle.book_model.specs.Terms.{Terms, termsWith}
+use Rattle.book_model.specs.Terms.{Terms, termsFor}
 
 pub data History : Type 0 where
-  opened : (header : List ℕ) → History
+  opened : (sheet header : List ℕ) → History
   fed : History → (line : List ℕ) → History
 
--- the header that a line gives
-unfoldable pub headerIn : HeaderLine → Header
-headerIn (HeaderRead h) = h
-headerIn (HeaderRefusal n) = zeroHeader
+-- the sheet of factors lent at its opening, builtInSheet for an opening without one (02, L3)
+unfoldable pub sheetOf : History → List ℕ
+sheetOf (opened sheet header) = sheet
+sheetOf (fed h line) = sheetOf h
 
 -- what the book was opened under
 unfoldable pub termsOf : History → Terms
-termsOf (opened header) = termsWith (headerIn (headerOf header))
+termsOf (opened sheet header) = termsFor sheet (headerOf header)
 termsOf (fed h line) = termsOf h
 
 -- document 01's ledger
 unfoldable pub acceptedOf : History → Accepted
-acceptedOf (opened header) = noneAccepted
+acceptedOf (opened sheet header) = noneAccepted
 acceptedOf (fed h line) = accept (termsOf h) (acceptedOf h) line
 
 -- 01: the lines taken

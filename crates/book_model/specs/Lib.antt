@@ -9,6 +9,7 @@ pub mod Exact
 pub mod History
 pub mod LineKinds
 pub mod LoanTable
+pub mod OwnFactors
 pub mod Ranges
 pub mod Requirement
 pub mod Share

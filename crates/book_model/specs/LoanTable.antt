@@ -92,21 +92,21 @@ SameTables s u =
     SameTexts (closingCells (s .book) (s .cells)) (closedCells (s .book) (s .cells)) (closingCells (u .book) (u .cells))
     (closedCells (u .book) (u .cells))
 
--- The claim, for every header line and every list of lines fed after it. (A header that is refused gives the value of an all-zero header,
--- of which it holds too.)
+-- The claim, for every sheet of factors, every header line and every list of lines fed after it. (An opening that is refused gives the value
+-- of an all-zero header under the regulator's table, of which it holds too.)
 pub record LoanTable : Type 0 where
   pub bands : Bands
   pub columns : Columns
   pub adds : (s : List ℕ) (band ltv : ℕ) (f : Loan → ℕ) → CellAdds s band ltv f
   -- Each cell of the table that feeding keeps counts and sums exactly the loans taken of its band and column,
-  pub cells : (header : List ℕ) (lines : List (List ℕ)) (band ltv : ℕ) → 1 ≤ band → band ≤ 12 → 1 ≤ ltv → ltv ≤ 5 →
-      cellAt (afterLines (opening header .state) lines .cells) band ltv ≡
-      cellFor (termsOf (opened header)) (linesTaken (allFed (opened header) lines)) band ltv
+  pub cells : (sheet header : List ℕ) (lines : List (List ℕ)) (band ltv : ℕ) → 1 ≤ band → band ≤ 12 → 1 ≤ ltv → ltv ≤ 5 →
+      cellAt (afterLines (opening sheet header .state) lines .cells) band ltv ≡
+      cellFor (termsOf (opened sheet header)) (linesTaken (allFed (opened sheet header) lines)) band ltv
   -- and the second closing writes the 60 cells.
-  pub closes : (header : List ℕ) (lines : List (List ℕ)) →
-      WritesCells (termsOf (opened header)) (acceptedOf (allFed (opened header) lines)) (afterLines (opening header .state) lines)
-  pub sums : (header : List ℕ) (lines : List (List ℕ)) → CellSums (termsOf (opened header)) (linesTaken (allFed (opened header) lines))
+  pub closes : (sheet header : List ℕ) (lines : List (List ℕ)) →
+      WritesCells (termsOf (opened sheet header)) (acceptedOf (allFed (opened sheet header) lines)) (afterLines (opening sheet header .state) lines)
+  pub sums : (sheet header : List ℕ) (lines : List (List ℕ)) → CellSums (termsOf (opened sheet header)) (linesTaken (allFed (opened sheet header) lines))
   -- the same lines taken, each as often, in whatever order: the same 60 lines, byte for byte
-  pub alike : (header : List ℕ) (lines others : List (List ℕ)) →
-      List·Permᴰ (linesTaken (allFed (opened header) lines)) (linesTaken (allFed (opened header) others)) →
-      SameTables (afterLines (opening header .state) lines) (afterLines (opening header .state) others)
+  pub alike : (sheet header : List ℕ) (lines others : List (List ℕ)) →
+      List·Permᴰ (linesTaken (allFed (opened sheet header) lines)) (linesTaken (allFed (opened sheet header) others)) →
+      SameTables (afterLines (opening sheet header .state) lines) (afterLines (opening sheet header .state) others)

@@ -3,7 +3,13 @@ use Prim.Native.Nat.{ℕ}
 use Rattle.figures.specs.declared.Sums.{Sums}
 use Rattle.book_model.specs.declared.Book.{Book}
 use Rattle.book_model.specs.declared.Fed.{Fed}
-use Rattle.book_model.specs.Calls.{bookWith}
+use Rattle.book_model.specs.declared.Opened.{Opened}
+use Rattle.book_model.specs.Calls.{emptyBook, bookWith}
+use Rattle.book_model.specs.Terms.{zeroHeader}
+
+-- the answer of an opening that is refused with n
+abbrev pub notOpened : ℕ → Opened
+notOpened n = record { refusal = n; book = emptyBook zeroHeader }
 
 -- the answer where a line that adds these sums meets the refusal n
 abbrev pub answerWith : ℕ → Book → Sums → Fed

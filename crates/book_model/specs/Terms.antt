@@ -1,12 +1,17 @@
 -- What a book is opened under.
 use Prim.Native.Nat.{ℕ}
+use mathlib.Core.Bool.{false}
 use mathlib.Core.List.{List}
 use lib.Dec.{eqb}
+use Rattle.exact.specs.Choice.{pick}
 use Rattle.loan_charge.specs.declared.LoanInputs.{LoanInputs}
 use Rattle.loan_charge.specs.declared.Score.{Score}
-use Rattle.loan_charge.specs.CreditFactor.{creditFactor, builtInRates}
+use Rattle.loan_charge.specs.CreditFactor.{creditFactor, ratesOf, builtInRates}
+use Rattle.sheet.specs.Sheet.{sheetPasses}
 use Rattle.line_forms.specs.Contents.{onAgedTable}
 use Rattle.line_forms.specs.declared.Header.{Header}
+use Rattle.line_forms.specs.declared.HeaderLine.{HeaderLine}
+use Rattle.line_forms.specs.declared.HeaderLine.the-variants.{Header as HeaderRead, Refusal as HeaderRefusal}
 use Rattle.line_forms.specs.declared.Loan.{Loan}
 
 -- its header and its table of credit factors
@@ -17,9 +22,25 @@ pub record Terms : Type 0 where
 abbrev pub under : Header → List ℕ → Terms
 under h rates = record { header = h; rates = rates }
 
+-- under a sheet of factors (02, L3)
+abbrev pub underSheet : Header → (sheet : List ℕ) → Terms
+underSheet h sheet = under h (ratesOf sheet)
+
 -- the terms of a book that is opened with the regulator's table
 abbrev pub termsWith : Header → Terms
 termsWith h = under h builtInRates
+
+-- the all-zero header, under which the value of a refused opening stands, with the regulator's table
+abbrev pub zeroHeader : Header
+zeroHeader = record { loans = 0; unscored = 0; aged = false; held = 0 }
+
+abbrev pub refusedTerms : Terms
+refusedTerms = termsWith zeroHeader
+
+-- What opening with a sheet and a line opens a book under, or leaves standing where either is refused.
+unfoldable pub termsFor : (sheet : List ℕ) → HeaderLine → Terms
+termsFor sheet (HeaderRead h) = pick (sheetPasses sheet) (underSheet h sheet) refusedTerms
+termsFor sheet (HeaderRefusal n) = refusedTerms
 
 -- m of a loan with this score, in 10^-17
 unfoldable pub factorFor : Terms → Score → ℕ

@@ -1,1 +1,3 @@
+pub mod CommandWords
+pub mod Sheets
 pub mod Turns

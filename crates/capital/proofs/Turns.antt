@@ -44,15 +44,15 @@ ends-now {more = more} r e = record { ends = λ z. r .ends (go more e) }
     go false k = refl
 
 -- one read more
-pub reached-on : {s t : Reading} {m n : ℕ} {buffer : List ℕ} → Reached s m → ReadsOn s t n buffer → Reached t (m + n)
-reached-on {s} {t} {m} {n} {buffer} r e =
+pub reached-on : {sheet : List ℕ} {s t : Reading} {m n : ℕ} {buffer : List ℕ} → Reached sheet s m → ReadsOn s t n buffer → Reached sheet t (m + n)
+reached-on {sheet} {s} {t} {m} {n} {buffer} r e =
     let k : length (take n buffer) ≡ n = length-take-le n buffer (e .count) in
     record {
       input = r .input ++ take n buffer;
       size = length-append (r .input) (take n buffer) ∙ omega (arith, r .size);
-      reads = e .reads ∙ ap (λ (x : Reading). withBytes x (take n buffer)) (r .reads) ∙ sym (bytes-append fromStart (r .input) (take n buffer));
+      reads = e .reads ∙ ap (λ (x : Reading). withBytes x (take n buffer)) (r .reads) ∙ sym (bytes-append (fromStart sheet) (r .input) (take n buffer));
     }
 
-pub reached-none : (s : Reading) (n : ℕ) → s ≡ fromStart → n ≡ 0 → Reached s n
+pub reached-none : (sheet : List ℕ) (s : Reading) (n : ℕ) → s ≡ fromStart sheet → n ≡ 0 → Reached sheet s n
 unfolding withBytes
-reached-none s n e f = record { input = []; size = omega (arith, f); reads = e }
+reached-none sheet s n e f = record { input = []; size = omega (arith, f); reads = e }

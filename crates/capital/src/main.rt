@@ -1,5 +1,5 @@
 // The mortgage capital book: reads a book from standard input and prints its report, with the word `cells` also its table of loans by score
-// and loan-to-value, or its refusal.
+// and loan-to-value, or its refusal. With the words `sheet FILE` the book is under the credit factors of that file.
 ghost use mathlib.Core.Bool.{true, false};
 ghost use mathlib.Core.Logic.{_↔_};
 ghost use mathlib.Core.Path.{_≡_};
@@ -7,13 +7,14 @@ ghost use Prim.Native.Nat.{_+_, _^_, _≤_};
 ghost use lib.ListN.{length};
 ghost use Rattle.exact.specs.Text.{text};
 ghost use Rattle.loan_charge.specs.Tables.{exponentials};
-ghost use Rattle.loan_charge.specs.CreditFactor.{builtInRates};
 ghost use Rattle.driver.specs.Reading.{readingOf, Running};
-ghost use Rattle.capital.specs.Reads.{ReadsOn, Reached, EndsReading};
+ghost use Rattle.capital.specs.Reads.{ReadsOn, Reached, EndsReading, SheetRead};
 use cell_report::Cells;
 use driver::Run;
 use loan_charge::charge::Exponentials;
 use loan_charge::credit::Rates;
+use sheet_file::Numbers;
+use sheet_file::Room;
 
 // The reads are counted, since nothing says that the input ends: no run uses up so many.
 const MOST_READS: usize = 1099511627776;
@@ -33,16 +34,17 @@ struct Turn {
 fn read_once(
     run: Run,
     exps: &Exponentials,
-    rates: &Rates,
+    sheet: &[u64],
+    rates: &mut Rates,
     cells: &mut Cells,
     buf: &mut [u8],
 ) -> Turn
-    requires { ⌜ Running run (now rates) (now cells) × (run .read + length (now buf) ≤ 2 ^ 62) × (now exps ≡ exponentials) × (now rates ≡ builtInRates) ⌝ }
+    requires { ⌜ Running run (now rates) (now cells) × (run .read + length (now buf) ≤ 2 ^ 62) × (now exps ≡ exponentials) ⌝ }
     ensures reading { λ r.
-        ⌜ ReadsOn (readingOf run (now (rates .entry)) (now (cells .entry))) (readingOf (r .run) (now (rates .entry)) (now (cells .exit))) (r .count)
-        (now (buf .exit)) ⌝ }
-    ensures running { λ r. ⌜ Running (r .run) (now (rates .entry)) (now (cells .exit)) × (r .run .read ≡ run .read + r .count) ⌝ }
-    ensures ends { λ r. ⌜ EndsReading (readingOf (r .run) (now (rates .entry)) (now (cells .exit))) (r .count) (r .more) (r .failed) ⌝ }
+        ⌜ ReadsOn (readingOf run (now (sheet .entry)) (now (rates .entry)) (now (cells .entry)))
+        (readingOf (r .run) (now (sheet .entry)) (now (rates .exit)) (now (cells .exit))) (r .count) (now (buf .exit)) ⌝ }
+    ensures running { λ r. ⌜ Running (r .run) (now (rates .exit)) (now (cells .exit)) × (r .run .read ≡ run .read + r .count) ⌝ }
+    ensures ends { λ r. ⌜ EndsReading (readingOf (r .run) (now (sheet .entry)) (now (rates .exit)) (now (cells .exit))) (r .count) (r .more) (r .failed) ⌝ }
 {
     let got = libc::read(0, buf);
     if got < 0 {
@@ -54,7 +56,7 @@ fn read_once(
         };
     }
     let n = io::count(got, buf);
-    let next = driver::step(run, exps, rates, cells, &buf[0..n]);
+    let next = driver::step(run, exps, sheet, rates, cells, &buf[0..n]);
     let p = next.progress;
     let more = (0 < n) & (p.refusal == 0) & (next.held <= line_forms::LONGEST_LINE);
     Turn {
@@ -66,16 +68,22 @@ fn read_once(
 }
 
 // Reads to the end of the input.
-fn read_all(exps: &Exponentials, rates: &Rates, cells: &mut Cells, buf: &mut [u8]) -> Turn
-    requires { ⌜ (now exps ≡ exponentials) × (now rates ≡ builtInRates) × (length (now buf) ≡ 65536) ⌝ }
-    ensures reached { λ r. ⌜ Reached (readingOf (r .run) (now (rates .entry)) (now (cells .exit))) (r .run .read) ⌝ }
-    ensures running { λ r. ⌜ Running (r .run) (now (rates .entry)) (now (cells .exit)) × (r .run .read ≤ 2 ^ 62) ⌝ }
-    ensures ends { λ r. ⌜ EndsReading (readingOf (r .run) (now (rates .entry)) (now (cells .exit))) (r .count) false (r .failed) ⌝ }
+fn read_all(
+    exps: &Exponentials,
+    sheet: &[u64],
+    rates: &mut Rates,
+    cells: &mut Cells,
+    buf: &mut [u8],
+) -> Turn
+    requires { ⌜ (now exps ≡ exponentials) × (length (now buf) ≡ 65536) ⌝ }
+    ensures reached { λ r. ⌜ Reached (now (sheet .entry)) (readingOf (r .run) (now (sheet .entry)) (now (rates .exit)) (now (cells .exit))) (r .run .read) ⌝ }
+    ensures running { λ r. ⌜ Running (r .run) (now (rates .exit)) (now (cells .exit)) × (r .run .read ≤ 2 ^ 62) ⌝ }
+    ensures ends { λ r. ⌜ EndsReading (readingOf (r .run) (now (sheet .entry)) (now (rates .exit)) (now (cells .exit))) (r .count) false (r .failed) ⌝ }
 {
-    let mut run = driver::start(cells);
+    let mut run = driver::start(rates, cells);
     let mut turns = MOST_READS;
     while 0 < turns {
-        let turn = read_once(run, exps, rates, cells, buf);
+        let turn = read_once(run, exps, sheet, rates, cells, buf);
         if !turn.more {
             return turn;
         }
@@ -90,57 +98,146 @@ fn read_all(exps: &Exponentials, rates: &Rates, cells: &mut Cells, buf: &mut [u8
     }
 }
 
-// Reads a book and prints what is to be printed of it, with the table of cells where it is asked for.
-fn print(asked: bool) {
+// Reads a book and prints what is to be printed of it under a sheet of factors, with the table of cells where it is asked for.
+fn print(asked: bool, sheet: &[u64]) {
     let exps = loan_charge::charge::table();
-    let rates = loan_charge::credit::rates();
+    let mut rates = [0u64; loan_charge::credit::RATES];
     let mut cells = [0u64; cell_report::PLACES];
     let mut buf = io::large_buffer();
     let mut out = [0u8; OUT];
-    let turn = read_all(&exps, &rates, &mut cells, &mut buf);
+    let turn = read_all(&exps, sheet, &mut rates, &mut cells, &mut buf);
     if turn.failed {
         io::write_all(2, b"capital: reading standard input failed\n");
         return;
     }
     let run = turn.run;
-    let n = driver::finish(run, &exps, &rates, &mut cells, asked, &mut out);
+    let n = driver::finish(run, &exps, sheet, &mut rates, &mut cells, asked, &mut out);
     if !io::write_all(1, &out[0..n]) {
         io::write_all(2, b"capital: writing standard output failed\n");
     }
+}
+
+// The numbers of a file of credit factors. `good` where it could be read to its end and is a list of numbers; if not, it is said why.
+fn read_sheet(path: &[u8], out: &mut Room) -> Numbers
+    ensures read { λ r. ⌜ SheetRead r (now (out .exit)) ⌝ }
+    ensures few { λ r. ⌜ r .count ≤ length (now (out .exit)) ⌝ }
+{
+    let fd = os::open_read(path);
+    if fd < 0 {
+        os::fail(b"capital: opening the sheet");
+        return no_numbers();
+    }
+    let mut buf = io::large_buffer();
+    let n = io::read_full(fd, &mut buf);
+    let mut next = [0u8; 1];
+    if libc::read(fd, &mut next) != 0 {
+        io::write_all(
+            2,
+            b"capital: the sheet could not be read, or is too long to be one\n",
+        );
+        return no_numbers();
+    }
+    libc::close(fd);
+    let numbers = sheet_file::numbers_in(&buf[0..n], out);
+    if !numbers.good {
+        io::write_all(
+            2,
+            b"capital: the sheet is no list of whole numbers with one space or line end after each\n",
+        );
+    }
+    numbers
+}
+
+fn no_numbers() -> Numbers
+    ensures { λ r. ⌜ (r .good ≡ false) × (r .count ≡ 0) ⌝ }
+{
+    Numbers {
+        count: 0,
+        good: false,
+    }
+}
+
+// The same under the sheet of the file that is named by this argument.
+fn print_under(asked: bool, file: usize) {
+    let mut name = io::buffer();
+    let n = os::arg(file, &mut name);
+    let mut room = [0u64; sheet_file::MOST];
+    let numbers = read_sheet(&name[0..n], &mut room);
+    if numbers.good {
+        let count = numbers.count;
+        print(asked, &room[0..count]);
+    }
+}
+
+// What the words after the program's name ask for: `next` is the first that is not yet understood, `file` the one that names a sheet, 0 for
+// none.
+struct Words {
+    cells: bool,
+    file: usize,
+    next: usize,
 }
 
 // Whether a word is `cells`.
 fn is_cells(word: &[u8]) -> bool
     ensures { λ r. ⌜ (r ≡ true) ↔ (now (word .entry) ≡ text "cells") ⌝ }
 {
-    if word.len() != 5 {
-        return false;
-    }
-    (word[0] == b'c')
-        & (word[1] == b'e')
-        & (word[2] == b'l')
-        & (word[3] == b'l')
-        & (word[4] == b's')
+    line_fields::same(word, b"cells")
 }
 
-// Whether the program was started with the word `cells` alone, where it has so many arguments, its own name among them.
-fn asks_cells(arguments: usize) -> bool {
+// Whether a word is `sheet`.
+fn is_sheet(word: &[u8]) -> bool
+    ensures { λ r. ⌜ (r ≡ true) ↔ (now (word .entry) ≡ text "sheet") ⌝ }
+{
+    line_fields::same(word, b"sheet")
+}
+
+// One more of them, where the program has so many arguments. Each is understood once, and `sheet` with a word after it.
+fn understood(words: Words, arguments: usize) -> Words {
+    let at = words.next;
+    if arguments <= at {
+        return words;
+    }
     let mut word = [0u8; 16];
-    let n = os::arg(1, &mut word);
-    (arguments == 2) & is_cells(&word[0..n])
+    let n = os::arg(at, &mut word);
+    if is_cells(&word[0..n]) & !words.cells {
+        return Words {
+            cells: true,
+            file: words.file,
+            next: at + 1,
+        };
+    }
+    if is_sheet(&word[0..n]) & (words.file == 0) {
+        if 2 <= arguments - at {
+            return Words {
+                cells: words.cells,
+                file: at + 1,
+                next: at + 2,
+            };
+        }
+    }
+    words
 }
 
 fn main() {
     let arguments = os::arg_count();
-    let asked = 1 < arguments;
-    if asked {
-        if !asks_cells(arguments) {
-            io::write_all(
-                2,
-                b"capital: the one word that can follow is cells, for the table of loans\n",
-            );
-            return;
-        }
+    let none = Words {
+        cells: false,
+        file: 0,
+        next: 1,
+    };
+    let first = understood(none, arguments);
+    let words = understood(first, arguments);
+    if words.next < arguments {
+        io::write_all(
+            2,
+            b"capital: the words that can follow are cells, for the table of loans, and sheet FILE, for credit factors of your own\n",
+        );
+        return;
     }
-    print(asked);
+    if words.file != 0 {
+        print_under(words.cells, words.file);
+        return;
+    }
+    let sheet = sheet::built_in();
+    print(words.cells, &sheet);
 }

@@ -2,12 +2,14 @@
 use mathlib.Core.Path.{_≡_, refl, sym, _∙_, ap}
 use mathlib.Core.Bool.{Bool, true, false}
 use mathlib.Core.List.{List, [], _∷_, _++_}
-use Prim.Native.Nat.{ℕ, _+_, _-_, _≤_, _<_}
+use Prim.Native.Nat.{ℕ, _+_, _*_, _-_, _≤_, _<_}
 use native.Mathlib.Omega.{arith}
 use lib.ListN.{length, take, drop, length-append}
 use borrow.Author.Tests.{eq-eqb, ne-eqb, le-ltb}
 use Rattle.exact.specs.Choice.{pick}
 use Rattle.exact.specs.Text.{text}
+use Rattle.loan_charge.specs.CreditFactor.{builtInRates}
+use Rattle.loan_charge.proofs.CreditLaws.{built-in}
 use Rattle.report.specs.Decimal.{digits}
 use Rattle.report.specs.Line.{refusalLine, onto, Written}
 use Rattle.report.proofs.Decimal.{digits-length}
@@ -15,11 +17,12 @@ use Rattle.report.proofs.Lines.{two-length}
 use Rattle.report.proofs.Onto.{written-more}
 use Rattle.book_model.specs.declared.Book.{Book}
 use Rattle.book_model.specs.declared.Closed.{Closed}
-use Rattle.book_model.specs.Calls.{State, tooFew, closingWith, closing, closed, reportSize, reportOf, cellsSize, cellsTextOf, closingCells, closedCells}
+use Rattle.book_model.specs.Calls.{stateAt, tooFew, closingWith, closing, closed, reportSize, reportOf, cellsSize, cellsTextOf, closingCells, closedCells}
 use Rattle.book_model.specs.Calls.{SoundBook}
+use Rattle.book_model.specs.Cells.{CellsBounded}
 use Rattle.book_model.proofs.Closings.{not-refused, untouched, writes, tells}
 use Rattle.book_model.proofs.Demand1.{demand1}
-use Rattle.driver.specs.Printed.{withTable, printedFor, printedAtEnd, endedWith}
+use Rattle.driver.specs.Printed.{withTable, printedWith, printedFor, printedAtEnd, endedWith}
 use Rattle.driver.specs.Reading.{Stage, withLine}
 
 -- a refusal's line fits any buffer for a report
@@ -30,15 +33,15 @@ refusal-room refusal number size h k room =
 
 module _ (asked : Bool) (p : Stage) where
   pub printed-refused : (p .refusal ≡ 0 → ⊥) → printedFor asked p ≡ refusalLine (p .refusal) (p .number)
-  unfolding printedFor
+  unfolding printedWith
   printed-refused h = rw (ne-eqb (p .refusal) 0 h) refl
 
   pub printed-empty : p .refusal ≡ 0 → p .number ≡ 1 → printedFor asked p ≡ refusalLine 2 1
-  unfolding printedFor
+  unfolding printedWith
   printed-empty e f = rw (eq-eqb (p .refusal) 0 e, eq-eqb (p .number) 1 f) refl
 
-  pub printed-end : p .refusal ≡ 0 → (p .number ≡ 1 → ⊥) → printedFor asked p ≡ printedAtEnd asked (p .state) (p .number)
-  unfolding printedFor
+  pub printed-end : p .refusal ≡ 0 → (p .number ≡ 1 → ⊥) → printedFor asked p ≡ printedAtEnd asked (p .state .book) (p .state .cells) (p .number)
+  unfolding printedWith
   printed-end e f = rw (eq-eqb (p .refusal) 0 e, ne-eqb (p .number) 1 f) refl
 
 -- a report is short enough to leave the table its room
@@ -47,54 +50,58 @@ report-room b sound out e h =
     let n = tells reportSize b (reportOf b) (length out) (sym (ap (λ (x : Closed). x .refusal) e) ∙ h) in
     omega (arith, ap (λ (x : Closed). x .length) e ∙ n, demand1 .report-fits b sound)
 
+-- a table fits the room that its closing asks for
+pub table-room : (b : Book) → SoundBook b → (cells : List ℕ) → CellsBounded cells (4 * b .sums .counts .loans) → length (cellsTextOf cells) ≤ cellsSize
+table-room b sound cells few = demand1 .cells-fit (stateAt b builtInRates cells) (record { book = sound; rates = built-in; cells = few })
+
 -- Closing a book with room for both texts, which is refused by 6 or not at all.
-module _ (asked : Bool) (s : State) (out : List ℕ) (room : reportSize + cellsSize ≤ length out) where
-  by-six : (t : Bool) → tooFew (s .book .header) (s .book .sums .counts) ≡ t → closing (s .book) (length out) .refusal ≡ pick t 6 0
+module _ (asked : Bool) (b : Book) (cells out : List ℕ) (room : reportSize + cellsSize ≤ length out) where
+  by-six : (t : Bool) → tooFew (b .header) (b .sums .counts) ≡ t → closing b (length out) .refusal ≡ pick t 6 0
   unfolding closingWith
   by-six t e = rw (e, le-ltb (length out) reportSize (omega arith)) refl
 
-  pub closing-refused : {c : Closed} {after : List ℕ} → c ≡ closing (s .book) (length out) → after ≡ closed (s .book) out → (c .refusal ≡ 0 → ⊥) → (after ≡ out)
-      × ((n : ℕ) → printedAtEnd asked s n ≡ refusalLine 6 n)
+  pub closing-refused : {c : Closed} {after : List ℕ} → c ≡ closing b (length out) → after ≡ closed b out → (c .refusal ≡ 0 → ⊥) → (after ≡ out)
+      × ((n : ℕ) → printedAtEnd asked b cells n ≡ refusalLine 6 n)
   unfolding printedAtEnd
   closing-refused {c} {after} e f h = (
-    f ∙ untouched reportSize (s .book) (reportOf (s .book)) out (λ z. h (ap (λ (x : Closed). x .refusal) e ∙ z)),
-    λ n. go n (tooFew (s .book .header) (s .book .sums .counts)) refl,
+    f ∙ untouched reportSize b (reportOf b) out (λ z. h (ap (λ (x : Closed). x .refusal) e ∙ z)),
+    λ n. go n (tooFew (b .header) (b .sums .counts)) refl,
   )
     where
-      go : (n : ℕ) (t : Bool) → tooFew (s .book .header) (s .book .sums .counts) ≡ t →
-          pick t (refusalLine 6 n) (withTable asked (reportOf (s .book)) (cellsTextOf (s .cells))) ≡ refusalLine 6 n
+      go : (n : ℕ) (t : Bool) → tooFew (b .header) (b .sums .counts) ≡ t →
+          pick t (refusalLine 6 n) (withTable asked (reportOf b) (cellsTextOf cells)) ≡ refusalLine 6 n
       go n true k = refl
       go n false k = absurd (h (ap (λ (x : Closed). x .refusal) e ∙ by-six false k))
 
   -- not refused: there are enough loans, and the report is written, with room for the table after it
-  module _ {c : Closed} {after : List ℕ} (e : c ≡ closing (s .book) (length out)) (f : after ≡ closed (s .book) out) (h : c .refusal ≡ 0) where
-    zero : closing (s .book) (length out) .refusal ≡ 0
+  module _ {c : Closed} {after : List ℕ} (e : c ≡ closing b (length out)) (f : after ≡ closed b out) (h : c .refusal ≡ 0) where
+    zero : closing b (length out) .refusal ≡ 0
     zero = sym (ap (λ (x : Closed). x .refusal) e) ∙ h
 
-    pub closing-enough : tooFew (s .book .header) (s .book .sums .counts) ≡ false
-    closing-enough = go (tooFew (s .book .header) (s .book .sums .counts)) refl
+    pub closing-enough : tooFew (b .header) (b .sums .counts) ≡ false
+    closing-enough = go (tooFew (b .header) (b .sums .counts)) refl
       where
-        go : (t : Bool) → tooFew (s .book .header) (s .book .sums .counts) ≡ t → t ≡ false
+        go : (t : Bool) → tooFew (b .header) (b .sums .counts) ≡ t → t ≡ false
         go true k = absurd (omega (arith, zero, by-six true k))
         go false k = refl
 
-    report-written : Written out (reportOf (s .book)) (c .length) after
+    report-written : Written out (reportOf b) (c .length) after
     report-written = record {
-      count = ap (λ (x : Closed). x .length) e ∙ tells reportSize (s .book) (reportOf (s .book)) (length out) zero;
-      bytes = f ∙ writes reportSize (s .book) (reportOf (s .book)) out zero;
+      count = ap (λ (x : Closed). x .length) e ∙ tells reportSize b (reportOf b) (length out) zero;
+      bytes = f ∙ writes reportSize b (reportOf b) out zero;
     }
 
-    at-end : (n : ℕ) → printedAtEnd asked s n ≡ withTable asked (reportOf (s .book)) (cellsTextOf (s .cells))
+    at-end : (n : ℕ) → printedAtEnd asked b cells n ≡ withTable asked (reportOf b) (cellsTextOf cells)
     unfolding printedAtEnd
     at-end n = rw closing-enough refl
 
-    pub report-alone : asked ≡ false → (n : ℕ) → Written out (printedAtEnd asked s n) (c .length) after
+    pub report-alone : asked ≡ false → (n : ℕ) → Written out (printedAtEnd asked b cells n) (c .length) after
     report-alone q n = rw (at-end n, q) report-written
 
     -- the table is written to what remains after the report
     pub report-and-table : asked ≡ true → (n : ℕ) {r : ℕ} {ys : List ℕ} →
-        Written (take (length after - c .length) (drop (c .length) after)) (cellsTextOf (s .cells)) r ys →
-        Written out (printedAtEnd asked s n) (c .length + r) (take (c .length) after ++ (ys ++ drop (length after - c .length) (drop (c .length) after)))
+        Written (take (length after - c .length) (drop (c .length) after)) (cellsTextOf cells) r ys →
+        Written out (printedAtEnd asked b cells n) (c .length + r) (take (c .length) after ++ (ys ++ drop (length after - c .length) (drop (c .length) after)))
     report-and-table q n w = rw (at-end n, q) (written-more report-written w)
 
 -- the second closing is not refused where there are enough loans and room

@@ -14,7 +14,7 @@ use Rattle.report.specs.Line.{refusalLine}
 use Rattle.line_forms.specs.declared.Line.the-variants.{Refusal}
 use Rattle.line_forms.specs.declared.HeaderLine.the-variants.{Refusal as HeaderRefusal}
 use Rattle.book_model.specs.Accepted.{refusalFor}
-use Rattle.book_model.specs.Calls.{State, Answer, openingFor, opening, feedingLine, feeding}
+use Rattle.book_model.specs.Calls.{State, Answer, openingRefusal, openingFor, opening, feedingLine, feeding}
 use Rattle.book_model.specs.LineKinds.{contentKind}
 use Rattle.driver.specs.Program.{Settled}
 use Rattle.driver.specs.Reading.{Stage, Reading, atStart, fromStart, after, newline, withTail, withLine, withByte, withBytes}
@@ -84,41 +84,41 @@ refused-lines p [] h = refl
 refused-lines p (line ∷ lines) h = ap (λ (q : Stage). withLines q lines) (sym (line-refused p line h)) ∙ refused-lines p lines h
 
 -- after a line of this number that got this answer
-answered-lines : (asked : Bool) (a : Answer) (number : ℕ) (lines : List (List ℕ)) →
-    printedFor asked (withLines (after a number) lines) ≡ pick (eqb (a .refusal) 0)
-    (printedFor asked (withLines (record { refusal = 0; number = number + 1; state = a .state }) lines)) (refusalLine (a .refusal) number)
-answered-lines asked a number lines = go (eqb (a .refusal) 0) refl
+answered-lines : (asked : Bool) (a : Answer) (number : ℕ) (sheet : List ℕ) (lines : List (List ℕ)) →
+    printedFor asked (withLines (after a number sheet) lines) ≡ pick (eqb (a .refusal) 0)
+    (printedFor asked (withLines (record { refusal = 0; number = number + 1; sheet = sheet; state = a .state }) lines)) (refusalLine (a .refusal) number)
+answered-lines asked a number sheet lines = go (eqb (a .refusal) 0) refl
   where
     go : (t : Bool) → eqb (a .refusal) 0 ≡ t →
-        printedFor asked (withLines (record { refusal = a .refusal; number = pick t (number + 1) number; state = a .state }) lines)
-        ≡ pick t (printedFor asked (withLines (record { refusal = 0; number = number + 1; state = a .state }) lines)) (refusalLine (a .refusal) number)
-    go true e = ap (λ (r : ℕ). printedFor asked (withLines (record { refusal = r; number = number + 1; state = a .state }) lines)) (eqb-true (a .refusal) 0 e)
+        printedFor asked (withLines (record { refusal = a .refusal; number = pick t (number + 1) number; sheet = sheet; state = a .state }) lines)
+        ≡ pick t (printedFor asked (withLines (record { refusal = 0; number = number + 1; sheet = sheet; state = a .state }) lines)) (refusalLine (a .refusal) number)
+    go true e = ap (λ (r : ℕ). printedFor asked (withLines (record { refusal = r; number = number + 1; sheet = sheet; state = a .state }) lines)) (eqb-true (a .refusal) 0 e)
     go false e =
-        ap (printedFor asked) (refused-lines (record { refusal = a .refusal; number = number; state = a .state }) lines (eqb-false (a .refusal) 0 e))
-        ∙ printed-refused asked (record { refusal = a .refusal; number = number; state = a .state }) (eqb-false (a .refusal) 0 e)
+        ap (printedFor asked) (refused-lines (record { refusal = a .refusal; number = number; sheet = sheet; state = a .state }) lines (eqb-false (a .refusal) 0 e))
+        ∙ printed-refused asked (record { refusal = a .refusal; number = number; sheet = sheet; state = a .state }) (eqb-false (a .refusal) 0 e)
 
-feeding-lines : (asked : Bool) (lines : List (List ℕ)) (s : State) (number : ℕ) → 2 ≤ number →
-    printedFor asked (withLines (record { refusal = 0; number = number; state = s }) lines) ≡ printedFeeding asked s number lines
+feeding-lines : (asked : Bool) (sheet : List ℕ) (lines : List (List ℕ)) (s : State) (number : ℕ) → 2 ≤ number →
+    printedFor asked (withLines (record { refusal = 0; number = number; sheet = sheet; state = s }) lines) ≡ printedFeeding asked s number lines
 unfolding withLines printedFeeding
-feeding-lines asked [] s number h = printed-end asked (record { refusal = 0; number = number; state = s }) refl (λ e. omega arith)
-feeding-lines asked (line ∷ lines) s number h =
-    ap (λ (q : Stage). printedFor asked (withLines q lines)) (sym (line-fed (record { refusal = 0; number = number; state = s }) line refl (λ e. omega arith)))
-    ∙ answered-lines asked (feeding s line) number lines
+feeding-lines asked sheet [] s number h = printed-end asked (record { refusal = 0; number = number; sheet = sheet; state = s }) refl (λ e. omega arith)
+feeding-lines asked sheet (line ∷ lines) s number h =
+    ap (λ (q : Stage). printedFor asked (withLines q lines)) (sym (line-fed (record { refusal = 0; number = number; sheet = sheet; state = s }) line refl (λ e. omega arith)))
+    ∙ answered-lines asked (feeding s line) number sheet lines
     ∙ ap (λ (x : List ℕ). pick (eqb (feeding s line .refusal) 0) x (refusalLine (feeding s line .refusal) number))
-    (feeding-lines asked lines (feeding s line .state) (number + 1) (omega arith))
+    (feeding-lines asked sheet lines (feeding s line .state) (number + 1) (omega arith))
 
-start-lines : (asked : Bool) (lines : List (List ℕ)) → printedFor asked (withLines atStart lines) ≡ printedLines asked lines
+start-lines : (asked : Bool) (sheet : List ℕ) (lines : List (List ℕ)) → printedFor asked (withLines (atStart sheet) lines) ≡ printedLines asked sheet lines
 unfolding withLines printedLines
-start-lines asked [] = printed-empty asked atStart refl refl
-start-lines asked (line ∷ lines) =
-    ap (λ (q : Stage). printedFor asked (withLines q lines)) (sym (line-opens atStart line refl refl))
-    ∙ answered-lines asked (opening line) 1 lines
-    ∙ ap (λ (x : List ℕ). pick (eqb (opening line .refusal) 0) x (refusalLine (opening line .refusal) 1))
-    (feeding-lines asked lines (opening line .state) 2 (omega arith))
+start-lines asked sheet [] = printed-empty asked (atStart sheet) refl refl
+start-lines asked sheet (line ∷ lines) =
+    ap (λ (q : Stage). printedFor asked (withLines q lines)) (sym (line-opens (atStart sheet) line refl refl))
+    ∙ answered-lines asked (opening sheet line) 1 sheet lines
+    ∙ ap (λ (x : List ℕ). pick (eqb (opening sheet line .refusal) 0) x (refusalLine (opening sheet line .refusal) 1))
+    (feeding-lines asked sheet lines (opening sheet line .state) 2 (omega arith))
 
--- What is printed is a function of the whole input.
-pub whole : (asked : Bool) (input : List ℕ) → printedFor asked (ended (withBytes fromStart input)) ≡ printed asked input
-whole asked input = ap (printedFor asked) (bytes-lines input atStart []) ∙ start-lines asked (linesOf input)
+-- What is printed is a function of the sheet and the whole input.
+pub whole : (asked : Bool) (sheet input : List ℕ) → printedFor asked (ended (withBytes (fromStart sheet) input)) ≡ printed asked sheet input
+whole asked sheet input = ap (printedFor asked) (bytes-lines input (atStart sheet) []) ∙ start-lines asked sheet (linesOf input)
 
 -- After a refusal the rest of the input changes nothing.
 refused-stays : (asked : Bool) (input : List ℕ) (s : Reading) → (s .stage .refusal ≡ 0 → ⊥) →
@@ -131,12 +131,12 @@ refused-stays asked (byte ∷ bytes) s h =
 
 -- A line over 240 bytes is refused whatever follows, or a line before it was.
 long-refused : (p : Stage) (line : List ℕ) → 240 < length line → withLine p line .refusal ≡ 0 → ⊥
-unfolding withLine openingFor feedingLine refusalFor contentKind
+unfolding withLine openingRefusal feedingLine refusalFor contentKind
 long-refused p line h = go (eqb (p .refusal) 0) refl (eqb (p .number) 1)
   where
     go : (a : Bool) → eqb (p .refusal) 0 ≡ a → (b : Bool) →
-        pick {A = Stage} a (after (pick b (opening line) (feeding (p .state) line)) (p .number)) p .refusal ≡ 0 → ⊥
-    go true f true e = let k : openingFor (HeaderRefusal 1) .refusal ≡ 0 = rw (long-header line h) at e in omega (arith, k)
+        pick {A = Stage} a (after (pick b (opening (p .sheet) line) (feeding (p .state) line)) (p .number) (p .sheet)) p .refusal ≡ 0 → ⊥
+    go true f true e = let k : openingFor (p .sheet) (HeaderRefusal 1) .refusal ≡ 0 = rw (long-header line h) at e in omega (arith, k)
     go true f false e = let k : feedingLine (p .state) (Refusal 1) .refusal ≡ 0 = rw (long-line line h) at e in omega (arith, k)
     go false f b e = eqb-false (p .refusal) 0 f e
 
@@ -177,7 +177,8 @@ pub settled : (asked : Bool) (s : Reading) → length (s .tail) ≤ 241 → Sett
 settled asked s k h more = ⊎-elim (λ r. refused-stays asked more s r ∙ sym (ap (printedFor asked) (refused-ended (s .stage) (s .tail) r)))
     (λ l. long-stays asked more (s .stage) (s .tail) l k ∙ sym (ap (printedFor asked) (ended-long (s .stage) (s .tail) l))) h
 
-pub stops : (asked : Bool) (input more : List ℕ) → Settled (withBytes fromStart input) → printed asked (input ++ more) ≡ printed asked input
-stops asked input more h =
-    sym (whole asked (input ++ more)) ∙ ap (λ (x : Reading). printedFor asked (ended x)) (bytes-append fromStart input more)
-    ∙ settled asked (withBytes fromStart input) (held-few input fromStart (omega arith)) h more ∙ whole asked input
+pub stops : (asked : Bool) (sheet input more : List ℕ) → Settled (withBytes (fromStart sheet) input) →
+    printed asked sheet (input ++ more) ≡ printed asked sheet input
+stops asked sheet input more h =
+    sym (whole asked sheet (input ++ more)) ∙ ap (λ (x : Reading). printedFor asked (ended x)) (bytes-append (fromStart sheet) input more)
+    ∙ settled asked (withBytes (fromStart sheet) input) (held-few input (fromStart sheet) (omega arith)) h more ∙ whole asked sheet input

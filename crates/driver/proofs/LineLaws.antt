@@ -7,28 +7,24 @@ use native.Mathlib.Omega.{arith}
 use lib.Dec.{eqb}
 use borrow.Author.Tests.{eq-eqb, ne-eqb}
 use Rattle.exact.specs.Choice.{pick}
-use Rattle.loan_charge.specs.CreditFactor.{builtInRates}
-use Rattle.line_forms.specs.declared.HeaderLine.{HeaderLine}
-use Rattle.line_forms.specs.declared.HeaderLine.the-variants.{Header as HeaderRead, Refusal as HeaderRefusal}
-use Rattle.line_forms.specs.Readings.{headerOf}
 use Rattle.book_model.specs.declared.Book.{Book}
 use Rattle.book_model.specs.declared.Fed.{Fed}
 use Rattle.book_model.specs.declared.Opened.{Opened}
-use Rattle.book_model.specs.Calls.{State, Answer, stateAt, openedOf, fedOf, openingFor, opening, feedingLine, feeding, Sound}
+use Rattle.book_model.specs.Calls.{State, Answer, stateAt, openedOf, fedOf, opening, feedingLine, feeding, Sound}
 use Rattle.book_model.proofs.Demand1.{demand1}
 use Rattle.driver.specs.declared.Progress.{Progress}
 use Rattle.driver.specs.Reading.{Stage, after, withLine, stageAt, progressAfter}
 
 -- the answer to a line that is not the first after a refusal
 abbrev answerTo : Stage → List ℕ → Answer
-answerTo p line = pick (eqb (p .number) 1) (opening line) (feeding (p .state) line)
+answerTo p line = pick (eqb (p .number) 1) (opening (p .sheet) line) (feeding (p .state) line)
 
 pub line-sound : (p : Stage) (line : List ℕ) → Sound (p .state) → Sound (withLine p line .state)
 unfolding withLine
 line-sound p line h = go (eqb (p .refusal) 0) (eqb (p .number) 1)
   where
-    go : (a b : Bool) → Sound (pick a (after (pick b (opening line) (feeding (p .state) line)) (p .number)) p .state)
-    go true true = demand1 .opening-sound line
+    go : (a b : Bool) → Sound (pick a (after (pick b (opening (p .sheet) line) (feeding (p .state) line)) (p .number) (p .sheet)) p .state)
+    go true true = demand1 .opening-sound (p .sheet) line
     go true false = demand1 .feeding-sound (p .state) line h
     go false b = h
 
@@ -39,8 +35,8 @@ line-number p line = go (eqb (p .refusal) 0) (eqb (answerTo p line .refusal) 0)
     go : (a b : Bool) → pick {A = Stage} a (record {
       refusal = answerTo p line .refusal;
       number = pick b (p .number + 1) (p .number);
-      state =
-          answerTo p line .state;
+      sheet = p .sheet;
+      state = answerTo p line .state;
     }) p .number ≤ p .number + 1
     go true true = omega arith
     go true false = omega arith
@@ -50,32 +46,27 @@ pub line-refused : (p : Stage) (line : List ℕ) → (p .refusal ≡ 0 → ⊥) 
 unfolding withLine
 line-refused p line h = rw (ne-eqb (p .refusal) 0 h) refl
 
-pub line-opens : (p : Stage) (line : List ℕ) → p .refusal ≡ 0 → p .number ≡ 1 → after (opening line) (p .number) ≡ withLine p line
+pub line-opens : (p : Stage) (line : List ℕ) → p .refusal ≡ 0 → p .number ≡ 1 → after (opening (p .sheet) line) (p .number) (p .sheet) ≡ withLine p line
 unfolding withLine
 line-opens p line e f = rw (eq-eqb (p .refusal) 0 e, eq-eqb (p .number) 1 f) refl
 
-pub line-fed : (p : Stage) (line : List ℕ) → p .refusal ≡ 0 → (p .number ≡ 1 → ⊥) → after (feeding (p .state) line) (p .number) ≡ withLine p line
+pub line-fed : (p : Stage) (line : List ℕ) → p .refusal ≡ 0 → (p .number ≡ 1 → ⊥) → after (feeding (p .state) line) (p .number) (p .sheet) ≡ withLine p line
 unfolding withLine
 line-fed p line e f = rw (eq-eqb (p .refusal) 0 e, ne-eqb (p .number) 1 f) refl
 
 -- What the code's answers stand for
 
--- a state just opened is under the regulator's table
-opened-rates : (l : HeaderLine) → openingFor l .state .rates ≡ builtInRates
-unfolding openingFor
-opened-rates (HeaderRead h) = refl
-opened-rates (HeaderRefusal n) = refl
-
+-- feeding leaves the rates
 fed-rates : (s : State) (line : List ℕ) → feeding s line .state .rates ≡ s .rates
 unfolding feedingLine
 fed-rates s line = refl
 
 -- the stage of a progress that an answer gave
-answer-stage : (a : Answer) (number : ℕ) {n : ℕ} {b : Book} {q : Progress} (rates cells : List ℕ) → q ≡ progressAfter n number b → n ≡ a .refusal →
-    b ≡ a .state .book → rates ≡ a .state .rates → cells ≡ a .state .cells → stageAt q rates cells ≡ after a number
-answer-stage a number {n} {b} {q} rates cells p e f g h =
-    ap (λ (x : Progress). stageAt x rates cells) p
-    ∙ (λ i. record { refusal = e i; number = pick (eqb (e i) 0) (number + 1) number; state = stateAt (f i) (g i) (h i) })
+answer-stage : (a : Answer) (number : ℕ) {n : ℕ} {b : Book} {q : Progress} (sheet rates cells : List ℕ) → q ≡ progressAfter n number b →
+    n ≡ a .refusal → b ≡ a .state .book → rates ≡ a .state .rates → cells ≡ a .state .cells → stageAt q sheet rates cells ≡ after a number sheet
+answer-stage a number {n} {b} {q} sheet rates cells p e f g h =
+    ap (λ (x : Progress). stageAt x sheet rates cells) p
+    ∙ (λ i. record { refusal = e i; number = pick (eqb (e i) 0) (number + 1) number; sheet = sheet; state = stateAt (f i) (g i) (h i) })
 
 -- What end_line ensures: q is the stage it gives.
 abbrev pub Ended : Stage → List ℕ → Stage → Type 0
@@ -90,23 +81,24 @@ ended-by p line q h e = (
   ),
 )
 
--- q is the progress that it gives, and `after-cells` the table as the call left it
-module _ (p : Progress) (rates cells line : List ℕ) (sound : Sound (stateAt (p .book) rates cells)) where
-  pub ended-refused : (p .refusal ≡ 0 → ⊥) → Ended (stageAt p rates cells) line (stageAt p rates cells)
-  ended-refused h = ended-by (stageAt p rates cells) line (stageAt p rates cells) sound (line-refused (stageAt p rates cells) line h)
+-- q is the progress that it gives, and the tables are as the call left them
+module _ (p : Progress) (sheet rates cells line : List ℕ) (sound : Sound (stateAt (p .book) rates cells)) where
+  pub ended-refused : (p .refusal ≡ 0 → ⊥) → Ended (stageAt p sheet rates cells) line (stageAt p sheet rates cells)
+  ended-refused h =
+      ended-by (stageAt p sheet rates cells) line (stageAt p sheet rates cells) sound (line-refused (stageAt p sheet rates cells) line h)
 
-  pub ended-opened : (o : Opened) (q : Progress) (after-cells : List ℕ) → rates ≡ builtInRates → p .refusal ≡ 0 → p .number ≡ 1 →
-      o ≡ openedOf (opening line) → after-cells ≡ opening line .state .cells → q ≡ progressAfter (o .refusal) (p .number) (o .book) →
-      Ended (stageAt p rates cells) line (stageAt q rates after-cells)
-  ended-opened o q after-cells t e f g k h =
-      ended-by (stageAt p rates cells) line (stageAt q rates after-cells) sound
-      (answer-stage (opening line) (p .number) rates after-cells h (ap (λ (x : Opened). x .refusal) g) (ap (λ (x : Opened). x .book) g)
-      (t ∙ sym (opened-rates (headerOf line))) k ∙ line-opens (stageAt p rates cells) line e f)
+  pub ended-opened : (o : Opened) (q : Progress) (after-rates after-cells : List ℕ) → p .refusal ≡ 0 → p .number ≡ 1 →
+      o ≡ openedOf (opening sheet line) → after-rates ≡ opening sheet line .state .rates → after-cells ≡ opening sheet line .state .cells →
+      q ≡ progressAfter (o .refusal) (p .number) (o .book) → Ended (stageAt p sheet rates cells) line (stageAt q sheet after-rates after-cells)
+  ended-opened o q after-rates after-cells e f g m k h =
+      ended-by (stageAt p sheet rates cells) line (stageAt q sheet after-rates after-cells) sound
+      (answer-stage (opening sheet line) (p .number) sheet after-rates after-cells h (ap (λ (x : Opened). x .refusal) g) (ap (λ (x : Opened). x .book) g) m k
+      ∙ line-opens (stageAt p sheet rates cells) line e f)
 
   pub ended-fed : (o : Fed) (q : Progress) (after-cells : List ℕ) → p .refusal ≡ 0 → (p .number ≡ 1 → ⊥) →
       o ≡ fedOf (feeding (stateAt (p .book) rates cells) line) → after-cells ≡ feeding (stateAt (p .book) rates cells) line .state .cells →
-      q ≡ progressAfter (o .refusal) (p .number) (o .book) → Ended (stageAt p rates cells) line (stageAt q rates after-cells)
+      q ≡ progressAfter (o .refusal) (p .number) (o .book) → Ended (stageAt p sheet rates cells) line (stageAt q sheet rates after-cells)
   ended-fed o q after-cells e f g k h =
-      ended-by (stageAt p rates cells) line (stageAt q rates after-cells) sound
-      (answer-stage (feeding (stateAt (p .book) rates cells) line) (p .number) rates after-cells h (ap (λ (x : Fed). x .refusal) g)
-      (ap (λ (x : Fed). x .book) g) (sym (fed-rates (stateAt (p .book) rates cells) line)) k ∙ line-fed (stageAt p rates cells) line e f)
+      ended-by (stageAt p sheet rates cells) line (stageAt q sheet rates after-cells) sound
+      (answer-stage (feeding (stateAt (p .book) rates cells) line) (p .number) sheet rates after-cells h (ap (λ (x : Fed). x .refusal) g)
+      (ap (λ (x : Fed). x .book) g) (sym (fed-rates (stateAt (p .book) rates cells) line)) k ∙ line-fed (stageAt p sheet rates cells) line e f)

@@ -9,6 +9,7 @@ use lib.ListN.{length, length-append}
 use borrow.Author.Tests.{eqb-true, eqb-false, eq-eqb}
 use Rattle.exact.specs.Choice.{pick}
 use Rattle.report.specs.Line.{refusalLine}
+use Rattle.loan_charge.specs.CreditFactor.{builtInSheet}
 use Rattle.figures.specs.declared.Counts.{Counts}
 use Rattle.book_model.specs.Accepted.{Accepted, countsIn, refusalOf, accept}
 use Rattle.book_model.specs.Calls.{State, opening, feeding, tooFew}
@@ -35,16 +36,16 @@ fed-more past [] line = refl
 fed-more past (s ∷ lines) line = fed-more (fed past s) lines line
 
 -- all lines before are taken, and so is this one
-taken-more : (header : List ℕ) (before : List (List ℕ)) (line : List ℕ) → AllTaken header before →
-    refusalOf (termsOf (opened header)) (record { kept = before }) line ≡ 0 → AllTaken header (before ++ (line ∷ []))
+taken-more : (sheet header : List ℕ) (before : List (List ℕ)) (line : List ℕ) → AllTaken sheet header before →
+    refusalOf (termsOf (opened sheet header)) (record { kept = before }) line ≡ 0 → AllTaken sheet header (before ++ (line ∷ []))
 unfolding acceptedOf accept
-taken-more header before line h e =
-    let t : Terms = termsOf (opened header) in
+taken-more sheet header before line h e =
+    let t : Terms = termsOf (opened sheet header) in
     record {
       opens = h .opens;
       taken =
-          ap (λ (x : History). linesTaken x) (fed-more (opened header) before line)
-          ∙ ap₂ (λ (u : Terms) (kept : List (List ℕ)). accept u (record { kept = kept }) line .kept) (terms-stay (opened header) before) (h .taken)
+          ap (λ (x : History). linesTaken x) (fed-more (opened sheet header) before line)
+          ∙ ap₂ (λ (u : Terms) (kept : List (List ℕ)). accept u (record { kept = kept }) line .kept) (terms-stay (opened sheet header) before) (h .taken)
           ∙ rw (eq-eqb (refusalOf t (record { kept = before }) line) 0 e) refl;
     }
 
@@ -54,88 +55,88 @@ unfolding accept
 accepted-more t before line e = rw (eq-eqb (refusalOf t (record { kept = before }) line) 0 e) refl
 
 -- the state of lines that are all taken
-unfoldable stateFor : (header : List ℕ) (lines : List (List ℕ)) → State
-stateFor header lines = stateOf (termsOf (opened header)) (record { kept = lines })
+unfoldable stateFor : (sheet header : List ℕ) (lines : List (List ℕ)) → State
+stateFor sheet header lines = stateOf (termsOf (opened sheet header)) (record { kept = lines })
 
 -- with one line more
-fed-taken : (header : List ℕ) (before : List (List ℕ)) (line : List ℕ) → refusalOf (termsOf (opened header)) (record { kept = before }) line ≡ 0 →
-    feeding (stateFor header before) line ≡ record { refusal = 0; state = stateFor header (before ++ (line ∷ [])) }
+fed-taken : (sheet header : List ℕ) (before : List (List ℕ)) (line : List ℕ) → refusalOf (termsOf (opened sheet header)) (record { kept = before }) line ≡ 0 →
+    feeding (stateFor sheet header before) line ≡ record { refusal = 0; state = stateFor sheet header (before ++ (line ∷ [])) }
 unfolding stateFor
-fed-taken header before line z =
-    step (termsOf (opened header)) (record { kept = before }) line
-    ∙ (λ i. record { refusal = z i; state = stateOf (termsOf (opened header)) (accepted-more (termsOf (opened header)) before line z i) })
+fed-taken sheet header before line z =
+    step (termsOf (opened sheet header)) (record { kept = before }) line
+    ∙ (λ i. record { refusal = z i; state = stateOf (termsOf (opened sheet header)) (accepted-more (termsOf (opened sheet header)) before line z i) })
 
 -- what is printed at their end, from the lines alone
 abbrev atEnd : Bool → Terms → List (List ℕ) → ℕ → List ℕ
 atEnd asked t lines number = pick (tooFew (t .header) (countsIn lines)) (refusalLine 6 number) (withTable asked (reportFor t lines) (cellsFor t lines))
 
-end-is : (asked : Bool) (header : List ℕ) (lines : List (List ℕ)) (number : ℕ) →
-    printedAtEnd asked (stateFor header lines) number ≡ atEnd asked (termsOf (opened header)) lines number
+end-is : (asked : Bool) (sheet header : List ℕ) (lines : List (List ℕ)) (number : ℕ) →
+    printedAtEnd asked (stateFor sheet header lines .book) (stateFor sheet header lines .cells) number ≡ atEnd asked (termsOf (opened sheet header)) lines number
 unfolding printedAtEnd stateFor
-end-is asked header lines number =
-    let t : Terms = termsOf (opened header) in
+end-is asked sheet header lines number =
+    let t : Terms = termsOf (opened sheet header) in
     ap₂ (λ (c : Counts) (r : List ℕ). pick (tooFew (t .header) c) (refusalLine 6 number) r) (counts t lines)
     (ap₂ (withTable asked) (report-is t lines) (cells-text t lines))
 
-at-end : (asked : Bool) (header : List ℕ) (lines : List (List ℕ)) → AllTaken header lines →
-    Outcome asked (header ∷ lines) (atEnd asked (termsOf (opened header)) lines (2 + length lines))
-at-end asked header lines h = go (tooFew (termsOf (opened header) .header) (countsIn lines)) refl
+at-end : (asked : Bool) (sheet header : List ℕ) (lines : List (List ℕ)) → AllTaken sheet header lines →
+    Outcome asked sheet (header ∷ lines) (atEnd asked (termsOf (opened sheet header)) lines (2 + length lines))
+at-end asked sheet header lines h = go (tooFew (termsOf (opened sheet header) .header) (countsIn lines)) refl
   where
-    go : (b : Bool) → tooFew (termsOf (opened header) .header) (countsIn lines) ≡ b →
-        Outcome asked (header ∷ lines) (pick b (refusalLine 6 (2 + length lines))
-        (withTable asked (reportFor (termsOf (opened header)) lines) (cellsFor (termsOf (opened header)) lines)))
-    go true e = too-few header lines h (few (termsOf (opened header) .header) (countsIn lines) .0 e)
+    go : (b : Bool) → tooFew (termsOf (opened sheet header) .header) (countsIn lines) ≡ b →
+        Outcome asked sheet (header ∷ lines) (pick b (refusalLine 6 (2 + length lines))
+        (withTable asked (reportFor (termsOf (opened sheet header)) lines) (cellsFor (termsOf (opened sheet header)) lines)))
+    go true e = too-few header lines h (few (termsOf (opened sheet header) .header) (countsIn lines) .0 e)
     go false e =
-        let k = enough (termsOf (opened header) .header) (countsIn lines) .0 e in
-        report header lines h (k .0) (k .1) (measured-of (termsOf (opened header)) (terms-in-range (opened header)) lines)
-        (cell-sums (termsOf (opened header)) lines)
+        let k = enough (termsOf (opened sheet header) .header) (countsIn lines) .0 e in
+        report header lines h (k .0) (k .1) (measured-of (termsOf (opened sheet header)) (terms-in-range (opened sheet header)) lines)
+        (cell-sums (termsOf (opened sheet header)) lines)
 
 -- and of lines after those
-feeding-on : (asked : Bool) (header : List ℕ) (before : List (List ℕ)) (lines : List (List ℕ)) → AllTaken header before →
+feeding-on : (asked : Bool) (sheet header : List ℕ) (before : List (List ℕ)) (lines : List (List ℕ)) → AllTaken sheet header before →
     (number : ℕ) → number ≡ 2 + length before →
-    Outcome asked (header ∷ (before ++ lines)) (printedFeeding asked (stateFor header before) number lines)
+    Outcome asked sheet (header ∷ (before ++ lines)) (printedFeeding asked (stateFor sheet header before) number lines)
 unfolding printedFeeding stateFor
-feeding-on asked header before [] h number e = rw (append-nil before, e, end-is asked header before (2 + length before)) (at-end asked header before h)
-feeding-on asked header before (line ∷ lines) h number e =
-    rw (step (termsOf (opened header)) (record { kept = before }) line)
-    (go (eqb (refusalOf (termsOf (opened header)) (record { kept = before }) line) 0) refl (feeding-on asked header (before ++ (line ∷ [])) lines))
+feeding-on asked sheet header before [] h number e = rw (append-nil before, e, end-is asked sheet header before (2 + length before)) (at-end asked sheet header before h)
+feeding-on asked sheet header before (line ∷ lines) h number e =
+    rw (step (termsOf (opened sheet header)) (record { kept = before }) line)
+    (go (eqb (refusalOf (termsOf (opened sheet header)) (record { kept = before }) line) 0) refl (feeding-on asked sheet header (before ++ (line ∷ [])) lines))
   where
     n : ℕ
-    n = refusalOf (termsOf (opened header)) (record { kept = before }) line
+    n = refusalOf (termsOf (opened sheet header)) (record { kept = before }) line
 
     go : (b : Bool) → eqb n 0 ≡ b →
-        (AllTaken header (before ++ (line ∷ [])) → (k : ℕ) → k ≡ 2 + length (before ++ (line ∷ [])) →
-        Outcome asked (header ∷ ((before ++ (line ∷ [])) ++ lines)) (printedFeeding asked (stateFor header (before ++ (line ∷ []))) k lines)) →
-        Outcome asked (header ∷ (before ++ (line ∷ lines)))
-        (pick b (printedFeeding asked (stateOf (termsOf (opened header)) (accept (termsOf (opened header)) (record { kept = before }) line)) (number + 1) lines)
+        (AllTaken sheet header (before ++ (line ∷ [])) → (k : ℕ) → k ≡ 2 + length (before ++ (line ∷ [])) →
+        Outcome asked sheet (header ∷ ((before ++ (line ∷ [])) ++ lines)) (printedFeeding asked (stateFor sheet header (before ++ (line ∷ []))) k lines)) →
+        Outcome asked sheet (header ∷ (before ++ (line ∷ lines)))
+        (pick b (printedFeeding asked (stateOf (termsOf (opened sheet header)) (accept (termsOf (opened sheet header)) (record { kept = before }) line)) (number + 1) lines)
         (refusalLine n number))
     go true f ih =
         let z : n ≡ 0 = eqb-true n 0 f in
-        let more : AllTaken header (before ++ (line ∷ [])) = taken-more header before line h z in
+        let more : AllTaken sheet header (before ++ (line ∷ [])) = taken-more sheet header before line h z in
         let m : length (before ++ (line ∷ [])) ≡ length before + 1 = length-append before (line ∷ []) in
-        let same : accept (termsOf (opened header)) (record { kept = before }) line ≡ record { kept = before ++ (line ∷ []) } =
-        accepted-more (termsOf (opened header)) before line z in
+        let same : accept (termsOf (opened sheet header)) (record { kept = before }) line ≡ record { kept = before ++ (line ∷ []) } =
+        accepted-more (termsOf (opened sheet header)) before line z in
         rw same (rw (append-assoc before (line ∷ []) lines) at (ih more (number + 1) (omega arith)))
-    go false f ih = rw e (not-taken header before line lines n (eqb-false n 0 f) h (feeding-answer (termsOf (opened header)) (record { kept = before }) line))
+    go false f ih = rw e (not-taken header before line lines n (eqb-false n 0 f) h (feeding-answer (termsOf (opened sheet header)) (record { kept = before }) line))
 
--- an opened header has no line taken
-opened-state : (header : List ℕ) → opening header .state ≡ stateFor header []
+-- an opened book has no line taken
+opened-state : (sheet header : List ℕ) → opening sheet header .state ≡ stateFor sheet header []
 unfolding stateFor acceptedOf
-opened-state header = opened-is header
+opened-state sheet header = opened-is sheet header
 
-none-taken : (header : List ℕ) → opening header .refusal ≡ 0 → AllTaken header []
+none-taken : (sheet header : List ℕ) → opening sheet header .refusal ≡ 0 → AllTaken sheet header []
 unfolding allFed acceptedOf
-none-taken header e = record { opens = e; taken = refl }
+none-taken sheet header e = record { opens = e; taken = refl }
 
-outcome : (asked : Bool) (lines : List (List ℕ)) → Outcome asked lines (printedLines asked lines)
+outcome : (asked : Bool) (sheet : List ℕ) (lines : List (List ℕ)) → Outcome asked sheet lines (printedLines asked sheet lines)
 unfolding printedLines
-outcome asked [] = no-line
-outcome asked (header ∷ lines) = rw (opened-state header) (go (eqb (opening header .refusal) 0) refl)
+outcome asked sheet [] = no-line
+outcome asked sheet (header ∷ lines) = rw (opened-state sheet header) (go (eqb (opening sheet header .refusal) 0) refl)
   where
-    go : (b : Bool) → eqb (opening header .refusal) 0 ≡ b →
-        Outcome asked (header ∷ lines) (pick b (printedFeeding asked (stateFor header []) 2 lines) (refusalLine (opening header .refusal) 1))
-    go true e = feeding-on asked header [] lines (none-taken header (eqb-true (opening header .refusal) 0 e)) 2 refl
-    go false e = not-opened header lines (opening header .refusal) (eqb-false (opening header .refusal) 0 e) refl (openings header)
+    go : (b : Bool) → eqb (opening sheet header .refusal) 0 ≡ b →
+        Outcome asked sheet (header ∷ lines) (pick b (printedFeeding asked (stateFor sheet header []) 2 lines) (refusalLine (opening sheet header .refusal) 1))
+    go true e = feeding-on asked sheet header [] lines (none-taken sheet header (eqb-true (opening sheet header .refusal) 0 e)) 2 refl
+    go false e = not-opened header lines (opening sheet header .refusal) (eqb-false (opening sheet header .refusal) 0 e) refl (openings sheet header)
 
 -- Lines that are all taken print what stands at their end.
 
@@ -158,57 +159,57 @@ taken-few past [] = omega arith
 taken-few past (line ∷ lines) = omega (arith, taken-few (fed past line) lines, accepted-few (termsOf past) (acceptedOf past) line)
 
 -- a refused line among them would be missing
-none-refused : (header : List ℕ) (before : List (List ℕ)) (line : List ℕ) (lines : List (List ℕ)) → AllTaken header before →
-    AllTaken header (before ++ (line ∷ lines)) →
-    eqb (refusalOf (termsOf (opened header)) (record { kept = before }) line) 0 ≡ false → ⊥
+none-refused : (sheet header : List ℕ) (before : List (List ℕ)) (line : List ℕ) (lines : List (List ℕ)) → AllTaken sheet header before →
+    AllTaken sheet header (before ++ (line ∷ lines)) →
+    eqb (refusalOf (termsOf (opened sheet header)) (record { kept = before }) line) 0 ≡ false → ⊥
 unfolding allFed acceptedOf accept
-none-refused header before line lines h k e =
-    let past : History = fed (allFed (opened header) before) line in
-    let same : linesTaken (fed (allFed (opened header) before) line) ≡ before =
-    ap₂ (λ (u : Terms) (kept : List (List ℕ)). accept u (record { kept = kept }) line .kept) (terms-stay (opened header) before) (h .taken) ∙ rw e refl in
+none-refused sheet header before line lines h k e =
+    let past : History = fed (allFed (opened sheet header) before) line in
+    let same : linesTaken (fed (allFed (opened sheet header) before) line) ≡ before =
+    ap₂ (λ (u : Terms) (kept : List (List ℕ)). accept u (record { kept = kept }) line .kept) (terms-stay (opened sheet header) before) (h .taken) ∙ rw e refl in
     let all : linesTaken (allFed past lines) ≡ before ++ (line ∷ lines) =
-    sym (ap (λ (x : History). linesTaken x) (fed-on (opened header) before (line ∷ lines))) ∙ k .taken in
+    sym (ap (λ (x : History). linesTaken x) (fed-on (opened sheet header) before (line ∷ lines))) ∙ k .taken in
     omega (arith, taken-few past lines, ap length same, ap length all, length-append before (line ∷ lines))
 
-all-fed : (asked : Bool) (header : List ℕ) (before lines : List (List ℕ)) (number : ℕ) → AllTaken header before → AllTaken header (before ++ lines) →
+all-fed : (asked : Bool) (sheet header : List ℕ) (before lines : List (List ℕ)) (number : ℕ) → AllTaken sheet header before → AllTaken sheet header (before ++ lines) →
     number ≡ 2 + length before →
-    printedFeeding asked (stateFor header before) number lines ≡ printedAtEnd asked (stateFor header (before ++ lines)) (2 + length (before ++ lines))
+    printedFeeding asked (stateFor sheet header before) number lines ≡ printedAtEnd asked (stateFor sheet header (before ++ lines) .book) (stateFor sheet header (before ++ lines) .cells) (2 + length (before ++ lines))
 unfolding printedFeeding
-all-fed asked header before [] number h k e = rw (append-nil before, e) refl
-all-fed asked header before (line ∷ lines) number h k e =
-    go (eqb (refusalOf (termsOf (opened header)) (record { kept = before }) line) 0) refl (all-fed asked header (before ++ (line ∷ [])) lines)
+all-fed asked sheet header before [] number h k e = rw (append-nil before, e) refl
+all-fed asked sheet header before (line ∷ lines) number h k e =
+    go (eqb (refusalOf (termsOf (opened sheet header)) (record { kept = before }) line) 0) refl (all-fed asked sheet header (before ++ (line ∷ [])) lines)
   where
     t : Terms
-    t = termsOf (opened header)
+    t = termsOf (opened sheet header)
 
     n : ℕ
-    n = refusalOf (termsOf (opened header)) (record { kept = before }) line
+    n = refusalOf (termsOf (opened sheet header)) (record { kept = before }) line
 
     go : (b : Bool) → eqb n 0 ≡ b →
-        ((m : ℕ) → AllTaken header (before ++ (line ∷ [])) → AllTaken header ((before ++ (line ∷ [])) ++ lines) → m ≡ 2 + length (before ++ (line ∷ [])) →
-        printedFeeding asked (stateFor header (before ++ (line ∷ []))) m lines ≡ printedAtEnd asked (stateFor header ((before ++ (line ∷ [])) ++ lines))
+        ((m : ℕ) → AllTaken sheet header (before ++ (line ∷ [])) → AllTaken sheet header ((before ++ (line ∷ [])) ++ lines) → m ≡ 2 + length (before ++ (line ∷ [])) →
+        printedFeeding asked (stateFor sheet header (before ++ (line ∷ []))) m lines ≡ printedAtEnd asked (stateFor sheet header ((before ++ (line ∷ [])) ++ lines) .book) (stateFor sheet header ((before ++ (line ∷ [])) ++ lines) .cells)
         (2 + length ((before ++ (line ∷ [])) ++ lines))) →
-        printedFeeding asked (stateFor header before) number (line ∷ lines) ≡ printedAtEnd asked (stateFor header (before ++ (line ∷ lines)))
+        printedFeeding asked (stateFor sheet header before) number (line ∷ lines) ≡ printedAtEnd asked (stateFor sheet header (before ++ (line ∷ lines)) .book) (stateFor sheet header (before ++ (line ∷ lines)) .cells)
         (2 + length (before ++ (line ∷ lines)))
     go true f ih =
-        let z : refusalOf (termsOf (opened header)) (record { kept = before }) line ≡ 0 = eqb-true n 0 f in
+        let z : refusalOf (termsOf (opened sheet header)) (record { kept = before }) line ≡ 0 = eqb-true n 0 f in
         let m : length (before ++ (line ∷ [])) ≡ length before + 1 = length-append before (line ∷ []) in
         let same : (before ++ (line ∷ [])) ++ lines ≡ before ++ (line ∷ lines) = append-assoc before (line ∷ []) lines in
-        rw (fed-taken header before line z)
-        (ih (number + 1) (taken-more header before line h z) (rw same k) (omega arith)
-        ∙ ap (λ (l : List (List ℕ)). printedAtEnd asked (stateFor header l) (2 + length l)) same)
-    go false f ih = absurd (none-refused header before line lines h k f)
+        rw (fed-taken sheet header before line z)
+        (ih (number + 1) (taken-more sheet header before line h z) (rw same k) (omega arith)
+        ∙ ap (λ (l : List (List ℕ)). printedAtEnd asked (stateFor sheet header l .book) (stateFor sheet header l .cells) (2 + length l)) same)
+    go false f ih = absurd (none-refused sheet header before line lines h k f)
 
 -- An input that gives a report prints it.
-reported : (asked : Bool) (header : List ℕ) (lines : List (List ℕ)) → Reports header lines →
-    printedLines asked (header ∷ lines) ≡ withTable asked (reportFor (termsOf (opened header)) lines) (cellsFor (termsOf (opened header)) lines)
+reported : (asked : Bool) (sheet header : List ℕ) (lines : List (List ℕ)) → Reports sheet header lines →
+    printedLines asked sheet (header ∷ lines) ≡ withTable asked (reportFor (termsOf (opened sheet header)) lines) (cellsFor (termsOf (opened sheet header)) lines)
 unfolding printedLines
-reported asked header lines r =
-    let t : Terms = termsOf (opened header) in
-    rw (eq-eqb (opening header .refusal) 0 (r .all .opens))
-    (ap (λ (s : State). printedFeeding asked s 2 lines) (opened-state header)
-    ∙ all-fed asked header [] lines 2 (none-taken header (r .all .opens)) (r .all) refl
-    ∙ end-is asked header lines (2 + length lines)
+reported asked sheet header lines r =
+    let t : Terms = termsOf (opened sheet header) in
+    rw (eq-eqb (opening sheet header .refusal) 0 (r .all .opens))
+    (ap (λ (s : State). printedFeeding asked s 2 lines) (opened-state sheet header)
+    ∙ all-fed asked sheet header [] lines 2 (none-taken sheet header (r .all .opens)) (r .all) refl
+    ∙ end-is asked sheet header lines (2 + length lines)
     ∙ rw (enough (t .header) (countsIn lines) .1 (r .loans, r .unscored)) refl)
 
 same-text : (asked : Bool) (t : Terms) {lines others : List (List ℕ)} → List·Permᴰ lines others →
@@ -216,14 +217,14 @@ same-text : (asked : Bool) (t : Terms) {lines others : List (List ℕ)} → List
 same-text asked t {lines} {others} p =
     ap₂ (withTable asked) (sym (report-is t lines) ∙ report-permuted t p ∙ report-is t others) (cells-permuted t p)
 
-alike : (asked : Bool) (header : List ℕ) (lines others : List (List ℕ)) (x y : List ℕ) → linesOf x ≡ header ∷ lines → linesOf y ≡ header ∷ others →
-    Reports header lines → Reports header others → List·Permᴰ lines others → printed asked x ≡ printed asked y
-alike asked header lines others x y e f r q p =
-    ap (printedLines asked) e ∙ reported asked header lines r ∙ same-text asked (termsOf (opened header)) p ∙ sym (reported asked header others q)
-    ∙ sym (ap (printedLines asked) f)
+alike : (asked : Bool) (sheet header : List ℕ) (lines others : List (List ℕ)) (x y : List ℕ) → linesOf x ≡ header ∷ lines → linesOf y ≡ header ∷ others →
+    Reports sheet header lines → Reports sheet header others → List·Permᴰ lines others → printed asked sheet x ≡ printed asked sheet y
+alike asked sheet header lines others x y e f r q p =
+    ap (printedLines asked sheet) e ∙ reported asked sheet header lines r ∙ same-text asked (termsOf (opened sheet header)) p ∙ sym (reported asked sheet header others q)
+    ∙ sym (ap (printedLines asked sheet) f)
 
 -- document 01's worked input
-worked-reports : Reports workedHeader workedLines
+worked-reports : Reports builtInSheet workedHeader workedLines
 worked-reports =
     record {
       all = record { opens = twelve .opens12; taken = twelve .taken12 };
@@ -235,10 +236,10 @@ worked-lines : linesOf workedInput ≡ workedHeader ∷ workedLines
 unfolding linesFrom lastOf
 worked-lines = refl
 
-worked : printed false workedInput ≡ workedReport
+worked : printed false builtInSheet workedInput ≡ workedReport
 worked =
-    ap (printedLines false) worked-lines ∙ reported false workedHeader workedLines worked-reports
-    ∙ ap (reportFor (termsOf (opened workedHeader))) (sym (twelve .taken12)) ∙ twelve .example12
+    ap (printedLines false builtInSheet) worked-lines ∙ reported false builtInSheet workedHeader workedLines worked-reports
+    ∙ ap (reportFor (termsOf (opened builtInSheet workedHeader))) (sym (twelve .taken12)) ∙ twelve .example12
 
 pub program : Program
-program = record { prints = λ asked input. outcome asked (linesOf input); alike = alike; stops = stops; worked = worked }
+program = record { prints = λ asked sheet input. outcome asked sheet (linesOf input); alike = alike; stops = stops; worked = worked }

@@ -6,6 +6,7 @@ use mathlib.Core.Path.{_≡_}
 use lib.Dec.{eqb}
 use Rattle.exact.specs.Choice.{pick}
 use Rattle.report.specs.Line.{refusalLine, Written}
+use Rattle.book_model.specs.declared.Book.{Book}
 use Rattle.book_model.specs.Calls.{State, opening, feeding, tooFew, reportOf, cellsTextOf}
 use Rattle.driver.specs.Reading.{Stage, Reading, fromStart, withLine, withBytes, newline}
 
@@ -28,32 +29,34 @@ abbrev pub withTable : (asked : Bool) → (report table : List ℕ) → List ℕ
 withTable asked report table = pick asked (report ++ table) report
 
 -- at the end of the lines, of which the next would have this number
-unfoldable pub printedAtEnd : Bool → State → ℕ → List ℕ
-printedAtEnd asked s number =
-    pick (tooFew (s .book .header) (s .book .sums .counts)) (refusalLine 6 number) (withTable asked (reportOf (s .book)) (cellsTextOf (s .cells)))
+unfoldable pub printedAtEnd : Bool → Book → (cells : List ℕ) → ℕ → List ℕ
+printedAtEnd asked b cells number =
+    pick (tooFew (b .header) (b .sums .counts)) (refusalLine 6 number) (withTable asked (reportOf b) (cellsTextOf cells))
 
 -- lines fed in turn to a book, the first of this number
 unfoldable pub printedFeeding : Bool → State → ℕ → List (List ℕ) → List ℕ
-printedFeeding asked s number [] = printedAtEnd asked s number
+printedFeeding asked s number [] = printedAtEnd asked (s .book) (s .cells) number
 printedFeeding asked s number (line ∷ lines) =
     pick (eqb (feeding s line .refusal) 0) (printedFeeding asked (feeding s line .state) (number + 1) lines)
     (refusalLine (feeding s line .refusal) number)
 
--- the lines of an input, the first of them the header
-unfoldable pub printedLines : Bool → List (List ℕ) → List ℕ
-printedLines asked [] = refusalLine 2 1
-printedLines asked (header ∷ lines) =
-    pick (eqb (opening header .refusal) 0) (printedFeeding asked (opening header .state) 2 lines)
-    (refusalLine (opening header .refusal) 1)
+-- the lines of an input, the first of them the header, under a sheet of factors
+unfoldable pub printedLines : Bool → (sheet : List ℕ) → List (List ℕ) → List ℕ
+printedLines asked sheet [] = refusalLine 2 1
+printedLines asked sheet (header ∷ lines) =
+    pick (eqb (opening sheet header .refusal) 0) (printedFeeding asked (opening sheet header .state) 2 lines)
+    (refusalLine (opening sheet header .refusal) 1)
 
-abbrev pub printed : (asked : Bool) → List ℕ → List ℕ
-printed asked input = printedLines asked (linesOf input)
+abbrev pub printed : (asked : Bool) → (sheet input : List ℕ) → List ℕ
+printed asked sheet input = printedLines asked sheet (linesOf input)
 
 -- what is printed where the lines end
-unfoldable pub printedFor : Bool → Stage → List ℕ
-printedFor asked p =
-    pick (eqb (p .refusal) 0) (pick (eqb (p .number) 1) (refusalLine 2 1) (printedAtEnd asked (p .state) (p .number)))
-    (refusalLine (p .refusal) (p .number))
+unfoldable pub printedWith : Bool → (refusal number : ℕ) → Book → (cells : List ℕ) → List ℕ
+printedWith asked refusal number b cells =
+    pick (eqb refusal 0) (pick (eqb number 1) (refusalLine 2 1) (printedAtEnd asked b cells number)) (refusalLine refusal number)
+
+abbrev pub printedFor : Bool → Stage → List ℕ
+printedFor asked p = printedWith asked (p .refusal) (p .number) (p .state .book) (p .state .cells)
 
 -- a line not ended by a newline is ended by the end of the input
 unfoldable pub endedWith : Stage → List ℕ → Stage
@@ -65,4 +68,5 @@ ended s = endedWith (s .stage) (s .tail)
 
 -- Of whatever input this is the reading, what is printed of it is written to the buffer, and its length told.
 abbrev pub PrintsWhole : (asked : Bool) → Reading → (before : List ℕ) → (told : ℕ) → (after : List ℕ) → Type 0
-PrintsWhole asked s before told after = (input : List ℕ) → s ≡ withBytes fromStart input → Written before (printed asked input) told after
+PrintsWhole asked s before told after =
+    (sheet input : List ℕ) → s ≡ withBytes (fromStart sheet) input → Written before (printed asked sheet input) told after

@@ -8,6 +8,7 @@ use mathlib.Core.Logic.{_⊎_}
 use lib.ListN.{length}
 use Rattle.exact.specs.Text.{text}
 use Rattle.report.specs.Line.{refusalLine}
+use Rattle.loan_charge.specs.CreditFactor.{builtInSheet}
 use Rattle.book_model.specs.Accepted.{countsIn}
 use Rattle.book_model.specs.Calls.{opening}
 use Rattle.book_model.specs.Demand2.{OpeningAnswer, FeedingAnswer}
@@ -18,39 +19,39 @@ use Rattle.book_model.specs.LoanTable.{cellsFor, CellSums}
 use Rattle.driver.specs.Printed.{linesOf, withTable, printed}
 use Rattle.driver.specs.Reading.{Reading, fromStart, withBytes}
 
--- The header line opens a book and all these lines after it are taken.
-pub record AllTaken (header : List ℕ) (lines : List (List ℕ)) : Type 0 where
-  pub opens : opening header .refusal ≡ 0
-  pub taken : linesTaken (allFed (opened header) lines) ≡ lines
+-- The header line opens a book under the sheet, and all these lines after it are taken.
+pub record AllTaken (sheet header : List ℕ) (lines : List (List ℕ)) : Type 0 where
+  pub opens : opening sheet header .refusal ≡ 0
+  pub taken : linesTaken (allFed (opened sheet header) lines) ≡ lines
 
--- What is printed of lines, the first of them the header, where the table of cells is asked for or not.
-pub data Outcome (asked : Bool) : (lines : List (List ℕ)) (out : List ℕ) → Type 0 where
+-- What is printed of lines, the first of them the header, under a sheet of factors, where the table of cells is asked for or not.
+pub data Outcome (asked : Bool) (sheet : List ℕ) : (lines : List (List ℕ)) (out : List ℕ) → Type 0 where
   -- Empty input prints (refused 2 1).
-  no-line : Outcome asked [] (refusalLine 2 1)
-  -- The header line is refused with n: (refused n 1).
-  not-opened : (header : List ℕ) (lines : List (List ℕ)) (n : ℕ) → (n ≡ 0 → ⊥) → opening header .refusal ≡ n →
-      OpeningAnswer header (opening header) → Outcome asked (header ∷ lines) (refusalLine n 1)
+  no-line : Outcome asked sheet [] (refusalLine 2 1)
+  -- The header line is refused with n, or n is 10 for the sheet: (refused n 1).
+  not-opened : (header : List ℕ) (lines : List (List ℕ)) (n : ℕ) → (n ≡ 0 → ⊥) → opening sheet header .refusal ≡ n →
+      OpeningAnswer sheet header (opening sheet header) → Outcome asked sheet (header ∷ lines) (refusalLine n 1)
   -- All lines before it are taken and this one is refused with n: (refused n L), L its number.
-  not-taken : (header : List ℕ) (before : List (List ℕ)) (line : List ℕ) (others : List (List ℕ)) (n : ℕ) → (n ≡ 0 → ⊥) → AllTaken header before →
-      FeedingAnswer (termsOf (opened header)) (record { kept = before }) line n →
-      Outcome asked (header ∷ (before ++ (line ∷ others))) (refusalLine n (2 + length before))
+  not-taken : (header : List ℕ) (before : List (List ℕ)) (line : List ℕ) (others : List (List ℕ)) (n : ℕ) → (n ≡ 0 → ⊥) → AllTaken sheet header before →
+      FeedingAnswer (termsOf (opened sheet header)) (record { kept = before }) line n →
+      Outcome asked sheet (header ∷ (before ++ (line ∷ others))) (refusalLine n (2 + length before))
   -- All lines are taken and too few of them are loans, or loans without a score: (refused 6 L), L the number after the last line.
-  too-few : (header : List ℕ) (lines : List (List ℕ)) → AllTaken header lines →
-      ((countsIn lines .loans < termsOf (opened header) .header .loans) ⊎ (countsIn lines .unscored < termsOf (opened header) .header .unscored)) →
-      Outcome asked (header ∷ lines) (refusalLine 6 (2 + length lines))
+  too-few : (header : List ℕ) (lines : List (List ℕ)) → AllTaken sheet header lines →
+      ((countsIn lines .loans < termsOf (opened sheet header) .header .loans) ⊎ (countsIn lines .unscored < termsOf (opened sheet header) .header .unscored)) →
+      Outcome asked sheet (header ∷ lines) (refusalLine 6 (2 + length lines))
   -- All lines are taken and there are as many loans as the header counts: the report of the lines, whose required amount is never below
   -- the exact requirement and less than the allowance above it; and after it, where that is asked for, the 60 lines of the table, whose
   -- counts and charges sum to the report's loans and total.
-  report : (header : List ℕ) (lines : List (List ℕ)) → AllTaken header lines →
-      termsOf (opened header) .header .loans ≤ countsIn lines .loans → termsOf (opened header) .header .unscored ≤ countsIn lines .unscored →
-      Measured (termsOf (opened header)) lines → CellSums (termsOf (opened header)) lines →
-      Outcome asked (header ∷ lines) (withTable asked (reportFor (termsOf (opened header)) lines) (cellsFor (termsOf (opened header)) lines))
+  report : (header : List ℕ) (lines : List (List ℕ)) → AllTaken sheet header lines →
+      termsOf (opened sheet header) .header .loans ≤ countsIn lines .loans → termsOf (opened sheet header) .header .unscored ≤ countsIn lines .unscored →
+      Measured (termsOf (opened sheet header)) lines → CellSums (termsOf (opened sheet header)) lines →
+      Outcome asked sheet (header ∷ lines) (withTable asked (reportFor (termsOf (opened sheet header)) lines) (cellsFor (termsOf (opened sheet header)) lines))
 
 -- An input that prints a report.
-pub record Reports (header : List ℕ) (lines : List (List ℕ)) : Type 0 where
-  pub all : AllTaken header lines
-  pub loans : termsOf (opened header) .header .loans ≤ countsIn lines .loans
-  pub unscored : termsOf (opened header) .header .unscored ≤ countsIn lines .unscored
+pub record Reports (sheet header : List ℕ) (lines : List (List ℕ)) : Type 0 where
+  pub all : AllTaken sheet header lines
+  pub loans : termsOf (opened sheet header) .header .loans ≤ countsIn lines .loans
+  pub unscored : termsOf (opened sheet header) .header .unscored ≤ countsIn lines .unscored
 
 -- From here on more input changes nothing: a line was refused, or the line being read has over 240 bytes.
 abbrev pub Settled : Reading → Type 0
@@ -62,11 +63,12 @@ workedInput =
     text "(book (loans 0) (unscored 0) (scores fresh) (held 0))\n(asset (amount 100000) (factor 25))\n(claims 1001)\n(equity 1000)\n(c 100)\n"
 
 pub record Program : Type 0 where
-  pub prints : (asked : Bool) (input : List ℕ) → Outcome asked (linesOf input) (printed asked input)
-  -- Two inputs with the same header line and the same lines in whatever order that both print a report print the same bytes.
-  pub alike : (asked : Bool) (header : List ℕ) (lines others : List (List ℕ)) (x y : List ℕ) → linesOf x ≡ header ∷ lines → linesOf y ≡ header ∷ others →
-      Reports header lines → Reports header others → List·Permᴰ lines others → printed asked x ≡ printed asked y
+  pub prints : (asked : Bool) (sheet input : List ℕ) → Outcome asked sheet (linesOf input) (printed asked sheet input)
+  -- Under the same sheet two inputs with the same header line and the same lines in whatever order that both print a report print the same bytes.
+  pub alike : (asked : Bool) (sheet header : List ℕ) (lines others : List (List ℕ)) (x y : List ℕ) → linesOf x ≡ header ∷ lines → linesOf y ≡ header ∷ others →
+      Reports sheet header lines → Reports sheet header others → List·Permᴰ lines others → printed asked sheet x ≡ printed asked sheet y
   -- The program may stop reading there.
-  pub stops : (asked : Bool) (input more : List ℕ) → Settled (withBytes fromStart input) → printed asked (input ++ more) ≡ printed asked input
+  pub stops : (asked : Bool) (sheet input more : List ℕ) → Settled (withBytes (fromStart sheet) input) →
+      printed asked sheet (input ++ more) ≡ printed asked sheet input
   -- Document 01's worked input prints its report, and nothing else where no table is asked for.
-  pub worked : printed false workedInput ≡ workedReport
+  pub worked : printed false builtInSheet workedInput ≡ workedReport

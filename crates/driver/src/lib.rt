@@ -4,14 +4,14 @@ mod newlines;
 ghost use mathlib.Core.Path.{_≡_};
 ghost use mathlib.Core.Bool.{true, false};
 ghost use mathlib.Core.List.{[], _∷_};
-ghost use Prim.Native.Nat.{_+_, _^_, _≤_, _<_};
+ghost use Prim.Native.Nat.{_+_, _*_, _^_, _≤_, _<_};
 ghost use lib.ListN.{length, take, drop};
 ghost use Rattle.loan_charge.specs.Tables.{exponentials};
-ghost use Rattle.loan_charge.specs.CreditFactor.{builtInRates};
 ghost use Rattle.report.specs.Line.{Written};
-ghost use Rattle.book_model.specs.Calls.{stateAt, tooFew, reportSize, cellsSize, cellsTextOf, Sound};
-ghost use Rattle.driver.specs.Reading.{fromStart, withLine, unbroken, mostHeld, withTail, withBytes, progressAfter, stageAt, readingOf, Running};
-ghost use Rattle.driver.specs.Printed.{printedAtEnd, printedFor, ended, PrintsWhole};
+ghost use Rattle.book_model.specs.Calls.{stateAt, tooFew, reportSize, cellsSize, cellsTextOf, SoundBook, Sound};
+ghost use Rattle.book_model.specs.Cells.{CellsBounded};
+ghost use Rattle.driver.specs.Reading.{withLine, unbroken, mostHeld, withTail, withBytes, progressAfter, stageAt, readingOf, AtStart, Running};
+ghost use Rattle.driver.specs.Printed.{printedAtEnd, printedWith, printedFor, ended, PrintsWhole};
 use book_model::Book;
 use cell_report::Cells;
 use line_forms::Header;
@@ -46,12 +46,13 @@ fn no_bytes() -> [u8; TAIL]
     [0; TAIL]
 }
 
-// Before any byte is read.
-pub fn start(cells: &mut Cells) -> Run
-    ensures equation { λ r. ⌜ readingOf r builtInRates (now (cells .exit)) ≡ fromStart ⌝ }
-    ensures running { λ r. ⌜ Running r builtInRates (now (cells .exit)) ⌝ }
+// Before any byte is read: what stands is the value of a refused opening.
+pub fn start(rates: &mut Rates, cells: &mut Cells) -> Run
+    ensures equation { λ r. ⌜ AtStart r (now (rates .exit)) (now (cells .exit)) ⌝ }
+    ensures running { λ r. ⌜ Running r (now (rates .exit)) (now (cells .exit)) ⌝ }
     ensures none { λ r. ⌜ r .read ≡ 0 ⌝ }
 {
+    *rates = sheet::built_in_rates();
     cells::clear(cells);
     let header = Header {
         loans: 0,
@@ -92,15 +93,16 @@ fn answered(refusal: u64, number: u64, book: Book) -> Progress
 fn end_line(
     p: Progress,
     exps: &Exponentials,
-    rates: &Rates,
+    sheet: &[u64],
+    rates: &mut Rates,
     cells: &mut Cells,
     line: &[u8],
 ) -> Progress
-    requires { ⌜ Sound (stateAt (p .book) (now rates) (now cells)) × (p .number < 2 ^ 63) × (now exps ≡ exponentials) × (now rates ≡ builtInRates) ⌝ }
+    requires { ⌜ Sound (stateAt (p .book) (now rates) (now cells)) × (p .number < 2 ^ 63) × (now exps ≡ exponentials) ⌝ }
     ensures equation { λ r.
-        ⌜ stageAt r (now (rates .entry)) (now (cells .exit)) ≡
-        withLine (stageAt p (now (rates .entry)) (now (cells .entry))) (now (line .entry)) ⌝ }
-    ensures sound { λ r. ⌜ Sound (stateAt (r .book) (now (rates .entry)) (now (cells .exit))) ⌝ }
+        ⌜ stageAt r (now (sheet .entry)) (now (rates .exit)) (now (cells .exit)) ≡
+        withLine (stageAt p (now (sheet .entry)) (now (rates .entry)) (now (cells .entry))) (now (line .entry)) ⌝ }
+    ensures sound { λ r. ⌜ Sound (stateAt (r .book) (now (rates .exit)) (now (cells .exit))) ⌝ }
     ensures number { λ r. ⌜ r .number ≤ p .number + 1 ⌝ }
 {
     if p.refusal != 0 {
@@ -108,7 +110,7 @@ fn end_line(
     }
     let number = p.number;
     if number == 1 {
-        let opened = book::open(line, cells);
+        let opened = book::open_sheet(line, sheet, rates, cells);
         let book = opened.book;
         return answered(opened.refusal, number, book);
     }
@@ -128,17 +130,18 @@ struct LinesRead {
 fn lines(
     before: Progress,
     exps: &Exponentials,
-    rates: &Rates,
+    sheet: &[u64],
+    rates: &mut Rates,
     cells: &mut Cells,
     bytes: &[u8],
 ) -> LinesRead
-    requires { ⌜ Sound (stateAt (before .book) (now rates) (now cells)) × (before .number + length (now bytes) < 2 ^ 63) × (now exps ≡ exponentials)
-        × (now rates ≡ builtInRates) ⌝ }
+    requires { ⌜ Sound (stateAt (before .book) (now rates) (now cells)) × (before .number + length (now bytes) < 2 ^ 63) × (now exps ≡ exponentials) ⌝ }
     ensures equation { λ r.
-        ⌜ record { stage = stageAt (r .progress) (now (rates .entry)) (now (cells .exit)); tail = [] } ≡
-        withBytes (record { stage = stageAt before (now (rates .entry)) (now (cells .entry)); tail = [] }) (take (r .rest) (now (bytes .entry))) ⌝ }
+        ⌜ record { stage = stageAt (r .progress) (now (sheet .entry)) (now (rates .exit)) (now (cells .exit)); tail = [] } ≡
+        withBytes (record { stage = stageAt before (now (sheet .entry)) (now (rates .entry)) (now (cells .entry)); tail = [] })
+        (take (r .rest) (now (bytes .entry))) ⌝ }
     ensures rest { λ r. ⌜ (r .rest ≤ length (now (bytes .entry))) × (unbroken (drop (r .rest) (now (bytes .entry))) ≡ true) ⌝ }
-    ensures sound { λ r. ⌜ Sound (stateAt (r .progress .book) (now (rates .entry)) (now (cells .exit))) ⌝ }
+    ensures sound { λ r. ⌜ Sound (stateAt (r .progress .book) (now (rates .exit)) (now (cells .exit))) ⌝ }
     ensures number { λ r. ⌜ r .progress .number ≤ before .number + r .rest ⌝ }
 {
     let size = bytes.len();
@@ -152,7 +155,7 @@ fn lines(
                 rest: i,
             };
         }
-        p = end_line(p, exps, rates, cells, &bytes[i..end]);
+        p = end_line(p, exps, sheet, rates, cells, &bytes[i..end]);
         i = end + 1;
     }
     LinesRead {
@@ -195,20 +198,21 @@ fn end_held(
     tail: &mut [u8],
     held: usize,
     exps: &Exponentials,
-    rates: &Rates,
+    sheet: &[u64],
+    rates: &mut Rates,
     cells: &mut Cells,
 ) -> Progress
-    requires { ⌜ Sound (stateAt (p .book) (now rates) (now cells)) × (p .number + 242 < 2 ^ 63) × (now exps ≡ exponentials) × (now rates ≡ builtInRates)
+    requires { ⌜ Sound (stateAt (p .book) (now rates) (now cells)) × (p .number + 242 < 2 ^ 63) × (now exps ≡ exponentials)
         × (held ≤ mostHeld) × (length (now tail) ≡ 242) × (unbroken (take held (now tail)) ≡ true) ⌝ }
     ensures equation { λ r.
-        ⌜ stageAt r (now (rates .entry)) (now (cells .exit)) ≡
-        withLine (stageAt p (now (rates .entry)) (now (cells .entry))) (take held (now (tail .entry))) ⌝ }
-    ensures sound { λ r. ⌜ Sound (stateAt (r .book) (now (rates .entry)) (now (cells .exit))) ⌝ }
+        ⌜ stageAt r (now (sheet .entry)) (now (rates .exit)) (now (cells .exit)) ≡
+        withLine (stageAt p (now (sheet .entry)) (now (rates .entry)) (now (cells .entry))) (take held (now (tail .entry))) ⌝ }
+    ensures sound { λ r. ⌜ Sound (stateAt (r .book) (now (rates .exit)) (now (cells .exit))) ⌝ }
     ensures number { λ r. ⌜ r .number ≤ p .number + 1 ⌝ }
 {
     tail[held] = b'\n';
     let end = held + 1;
-    let read = lines(p, exps, rates, cells, &tail[0..end]);
+    let read = lines(p, exps, sheet, rates, cells, &tail[0..end]);
     read.progress
 }
 
@@ -217,21 +221,22 @@ fn read_lines(
     p: Progress,
     before: [u8; TAIL],
     exps: &Exponentials,
-    rates: &Rates,
+    sheet: &[u64],
+    rates: &mut Rates,
     cells: &mut Cells,
     bytes: &[u8],
     read: usize,
 ) -> Run
     requires { ⌜ Sound (stateAt (p .book) (now rates) (now cells)) × (p .number + length (now bytes) ≤ 1 + read) × (read ≤ 2 ^ 62) × (now exps ≡ exponentials)
-        × (now rates ≡ builtInRates) × (length before ≡ 242) ⌝ }
+        × (length before ≡ 242) ⌝ }
     ensures equation { λ r.
-        ⌜ readingOf r (now (rates .entry)) (now (cells .exit)) ≡
-        withBytes (record { stage = stageAt p (now (rates .entry)) (now (cells .entry)); tail = [] }) (now (bytes .entry)) ⌝ }
-    ensures running { λ r. ⌜ Running r (now (rates .entry)) (now (cells .exit)) ⌝ }
+        ⌜ readingOf r (now (sheet .entry)) (now (rates .exit)) (now (cells .exit)) ≡
+        withBytes (record { stage = stageAt p (now (sheet .entry)) (now (rates .entry)) (now (cells .entry)); tail = [] }) (now (bytes .entry)) ⌝ }
+    ensures running { λ r. ⌜ Running r (now (rates .exit)) (now (cells .exit)) ⌝ }
     ensures read { λ r. ⌜ r .read ≡ read ⌝ }
 {
     let size = bytes.len();
-    let all = lines(p, exps, rates, cells, bytes);
+    let all = lines(p, exps, sheet, rates, cells, bytes);
     let rest = all.rest;
     let mut tail = before;
     let held = hold(&mut tail, 0, &bytes[rest..size]);
@@ -245,12 +250,19 @@ fn read_lines(
 }
 
 // A part of the input is read.
-pub fn step(run: Run, exps: &Exponentials, rates: &Rates, cells: &mut Cells, chunk: &[u8]) -> Run
-    requires { ⌜ Running run (now rates) (now cells) × (run .read + length (now chunk) ≤ 2 ^ 62) × (now exps ≡ exponentials) × (now rates ≡ builtInRates) ⌝ }
+pub fn step(
+    run: Run,
+    exps: &Exponentials,
+    sheet: &[u64],
+    rates: &mut Rates,
+    cells: &mut Cells,
+    chunk: &[u8],
+) -> Run
+    requires { ⌜ Running run (now rates) (now cells) × (run .read + length (now chunk) ≤ 2 ^ 62) × (now exps ≡ exponentials) ⌝ }
     ensures equation { λ r.
-        ⌜ readingOf r (now (rates .entry)) (now (cells .exit)) ≡
-        withBytes (readingOf run (now (rates .entry)) (now (cells .entry))) (now (chunk .entry)) ⌝ }
-    ensures running { λ r. ⌜ Running r (now (rates .entry)) (now (cells .exit)) ⌝ }
+        ⌜ readingOf r (now (sheet .entry)) (now (rates .exit)) (now (cells .exit)) ≡
+        withBytes (readingOf run (now (sheet .entry)) (now (rates .entry)) (now (cells .entry))) (now (chunk .entry)) ⌝ }
+    ensures running { λ r. ⌜ Running r (now (rates .exit)) (now (cells .exit)) ⌝ }
     ensures read { λ r. ⌜ r .read ≡ run .read + length (now (chunk .entry)) ⌝ }
 {
     let size = chunk.len();
@@ -259,7 +271,7 @@ pub fn step(run: Run, exps: &Exponentials, rates: &Rates, cells: &mut Cells, chu
     let held = run.held;
     let mut tail = run.tail;
     if held == 0 {
-        return read_lines(p, tail, exps, rates, cells, chunk, read);
+        return read_lines(p, tail, exps, sheet, rates, cells, chunk, read);
     }
     let end = newlines::line_end(chunk, 0);
     let n = hold(&mut tail, held, &chunk[0..end]);
@@ -271,9 +283,18 @@ pub fn step(run: Run, exps: &Exponentials, rates: &Rates, cells: &mut Cells, chu
             read,
         };
     }
-    let next = end_held(p, &mut tail, n, exps, rates, cells);
+    let next = end_held(p, &mut tail, n, exps, sheet, rates, cells);
     let from = end + 1;
-    read_lines(next, tail, exps, rates, cells, &chunk[from..size], read)
+    read_lines(
+        next,
+        tail,
+        exps,
+        sheet,
+        rates,
+        cells,
+        &chunk[from..size],
+        read,
+    )
 }
 
 // Writes the table of cells.
@@ -287,8 +308,8 @@ fn put_table(b: Book, cells: &Cells, out: &mut [u8]) -> usize
 
 // Closes a book, of which the line after the last would have this number: writes its report, and the table of cells where it is asked for.
 fn put_closing(b: Book, number: u64, cells: &Cells, asked: bool, out: &mut [u8]) -> usize
-    requires { ⌜ Sound (stateAt b builtInRates (now cells)) × (reportSize + cellsSize ≤ length (now out)) ⌝ }
-    ensures { λ r. ⌜ Written (now (out .entry)) (printedAtEnd asked (stateAt b builtInRates (now (cells .entry))) number) r (now (out .exit)) ⌝ }
+    requires { ⌜ SoundBook b × CellsBounded (now cells) (4 * b .sums .counts .loans) × (reportSize + cellsSize ≤ length (now out)) ⌝ }
+    ensures { λ r. ⌜ Written (now (out .entry)) (printedAtEnd asked b (now (cells .entry)) number) r (now (out .exit)) ⌝ }
 {
     let closed = book::close(b, out);
     if closed.refusal != 0 {
@@ -303,8 +324,9 @@ fn put_closing(b: Book, number: u64, cells: &Cells, asked: bool, out: &mut [u8])
 
 // Writes what is printed where the lines end.
 fn put_answer(p: Progress, cells: &Cells, asked: bool, out: &mut [u8]) -> usize
-    requires { ⌜ Sound (stateAt (p .book) builtInRates (now cells)) × (reportSize + cellsSize ≤ length (now out)) ⌝ }
-    ensures { λ r. ⌜ Written (now (out .entry)) (printedFor asked (stageAt p builtInRates (now (cells .entry)))) r (now (out .exit)) ⌝ }
+    requires { ⌜ SoundBook (p .book) × CellsBounded (now cells) (4 * p .book .sums .counts .loans) × (reportSize + cellsSize ≤ length (now out)) ⌝ }
+    ensures { λ r.
+        ⌜ Written (now (out .entry)) (printedWith asked (p .refusal) (p .number) (p .book) (now (cells .entry))) r (now (out .exit)) ⌝ }
 {
     let refusal = p.refusal;
     let number = p.number;
@@ -322,16 +344,19 @@ fn put_answer(p: Progress, cells: &Cells, asked: bool, out: &mut [u8]) -> usize
 pub fn finish(
     run: Run,
     exps: &Exponentials,
-    rates: &Rates,
+    sheet: &[u64],
+    rates: &mut Rates,
     cells: &mut Cells,
     asked: bool,
     out: &mut [u8],
 ) -> usize
-    requires { ⌜ Running run (now rates) (now cells) × (run .read ≤ 2 ^ 62) × (now exps ≡ exponentials) × (now rates ≡ builtInRates)
+    requires { ⌜ Running run (now rates) (now cells) × (run .read ≤ 2 ^ 62) × (now exps ≡ exponentials)
         × (reportSize + cellsSize ≤ length (now out)) ⌝ }
     ensures equation { λ r.
-        ⌜ Written (now (out .entry)) (printedFor asked (ended (readingOf run (now (rates .entry)) (now (cells .entry))))) r (now (out .exit)) ⌝ }
-    ensures whole { λ r. ⌜ PrintsWhole asked (readingOf run (now (rates .entry)) (now (cells .entry))) (now (out .entry)) r (now (out .exit)) ⌝ }
+        ⌜ Written (now (out .entry)) (printedFor asked (ended (readingOf run (now (sheet .entry)) (now (rates .entry)) (now (cells .entry))))) r
+        (now (out .exit)) ⌝ }
+    ensures whole { λ r.
+        ⌜ PrintsWhole asked (readingOf run (now (sheet .entry)) (now (rates .entry)) (now (cells .entry))) (now (out .entry)) r (now (out .exit)) ⌝ }
 {
     let p = run.progress;
     let unended = run.held;
@@ -339,6 +364,6 @@ pub fn finish(
         return put_answer(p, cells, asked, out);
     }
     let mut tail = run.tail;
-    let last = end_held(p, &mut tail, unended, exps, rates, cells);
+    let last = end_held(p, &mut tail, unended, exps, sheet, rates, cells);
     put_answer(last, cells, asked, out)
 }

@@ -1,46 +1,43 @@
--- Demands 1 to 3 of the calls, and request L1, from the theorems about the definitions that their contracts cite. Assumes nothing.
+-- Demands 1 to 3 of the calls, and requests L1 and L3, from the theorems about the definitions that their contracts cite. Assumes nothing.
 use mathlib.Core.Path.{_≡_, refl, sym, _∙_, ap, ap₂, subst}
 use mathlib.Core.List.{List}
 use Prim.Native.Nat.{ℕ}
 use lib.ListN.{length, take}
-use Rattle.loan_charge.specs.CreditFactor.{builtInRates}
-use Rattle.line_forms.specs.declared.HeaderLine.{HeaderLine}
-use Rattle.line_forms.specs.declared.HeaderLine.the-variants.{Header as HeaderRead, Refusal as HeaderRefusal}
-use Rattle.line_forms.specs.Readings.{headerOf}
+use Rattle.loan_charge.specs.CreditFactor.{builtInSheet, ratesOf}
+use Rattle.sheet.specs.Sheet.{SheetRules}
 use Rattle.report.specs.Line.{onto}
 use Rattle.book_model.specs.declared.Book.{Book}
 use Rattle.book_model.specs.declared.Closed.{Closed}
 use Rattle.book_model.specs.declared.Fed.{Fed}
+use Rattle.book_model.specs.declared.Opened.{Opened}
 use Rattle.book_model.specs.Accepted.{Accepted}
-use Rattle.book_model.specs.Calls.{State, Answer, stateAt, openedOf, fedOf, openingFor, opening, feedingLine, feeding, closing, closed, closingCells, Sound}
+use Rattle.book_model.specs.Calls.{State, Answer, stateAt, termsIn, openedOf, fedOf, opening, feedingLine, feeding, closing, closed, closingCells, Sound}
 use Rattle.book_model.specs.Calls.{reportSize, cellsSize, closedCells}
 use Rattle.book_model.specs.Demand3.{Writes, Closes, SameTexts, SameReports}
-use Rattle.book_model.specs.History.{History, termsOf, acceptedOf, linesTaken}
+use Rattle.book_model.specs.History.{History, sheetOf, termsOf, acceptedOf, linesTaken}
 use Rattle.book_model.specs.LoanTable.{WritesCells, SameTables}
-use Rattle.book_model.specs.Terms.{Terms}
+use Rattle.book_model.specs.Terms.{Terms, under}
 use Rattle.book_model.proofs.Demand1.{demand1}
 use Rattle.book_model.proofs.Demand2.{openings, feeding-answer, closing-answer}
 use Rattle.book_model.proofs.Demand3.{opened-is, fed-is, terms-in-range, closes-of, measured-of, same-reports}
 use Rattle.book_model.proofs.LoanTable.{cell-is, cell-sums, cells-written, same-tables}
+use Rattle.book_model.proofs.OwnFactors.{own-factors}
 use Rattle.book_model.proofs.Steps.{stateOf}
-use Rattle.histories.specs.Demands.{CallsDemand1, CallsDemand2, CallsDemand3, CallsLoanTable}
-use Rattle.histories.specs.Given.{OpenCall, FeedingCall, by-feed, by-feed-with, CloseCall, CellsCall, Given, by-opening, by-feeding}
+use Rattle.histories.specs.Demands.{CallsDemand1, CallsDemand2, CallsDemand3, CallsLoanTable, CallsOwnFactors}
+use Rattle.histories.specs.Given.{OpeningCall, by-open, by-open-sheet, FeedingCall, by-feed, by-feed-with, CloseCall, CellsCall, Given, by-opening, by-feeding}
 
 -- What each call gave, by its contract
 
--- an opened state is under the regulator's table
-under-built-in : (l : HeaderLine) → openingFor l .state ≡ stateAt (openingFor l .state .book) builtInRates (openingFor l .state .cells)
-unfolding openingFor
-under-built-in (HeaderRead h) = refl
-under-built-in (HeaderRefusal n) = refl
+-- from the three parts that a contract tells
+opened-parts : (sheet line : List ℕ) {r : Opened} {rates cells : List ℕ} → r ≡ openedOf (opening sheet line) → rates ≡ opening sheet line .state .rates →
+    cells ≡ opening sheet line .state .cells → record { refusal = r .refusal; state = stateAt (r .book) rates cells } ≡ opening sheet line
+opened-parts sheet line e f g = λ i. record { refusal = e i .refusal; state = stateAt (e i .book) (f i) (g i) }
 
-opened-by : {line : List ℕ} {a : Answer} → OpenCall line a → a ≡ opening line
-opened-by {line} {a} c =
-    let o : c .result ≡ openedOf (opening line) = c .learnt .0 ∙ ap (λ (x : List ℕ). openedOf (opening x)) (c .lent) in
-    let t = c .learnt .1 .0 ∙ ap (λ (x : List ℕ). opening x .state .cells) (c .lent) in
-    sym (c .gave)
-    ∙ (λ i. record { refusal = o i .refusal; state = stateAt (o i .book) builtInRates (t i) })
-    ∙ (λ i. record { refusal = opening line .refusal; state = sym (under-built-in (headerOf line)) i })
+opened-by : {sheet line : List ℕ} {a : Answer} → OpeningCall sheet line a → a ≡ opening sheet line
+opened-by (by-open c) =
+    sym (c .gave) ∙ opened-parts _ _ (c .learnt .0) (c .learnt .1 .0) (c .learnt .1 .1 .0) ∙ ap (opening builtInSheet) (c .lent)
+opened-by (by-open-sheet c) =
+    sym (c .gave) ∙ opened-parts _ _ (c .learnt .0) (c .learnt .1 .0) (c .learnt .1 .1 .0) ∙ ap₂ opening (c .factors) (c .lent)
 
 -- feeding leaves the rates
 fed-state : (s : State) (line : List ℕ) → feeding s line .state ≡ stateAt (feeding s line .state .book) (s .rates) (feeding s line .state .cells)
@@ -75,7 +72,7 @@ cells-by c = (
 
 -- The state that the calls gave is that of the lines taken.
 pub given : {h : History} {s : State} → Given h s → s ≡ stateOf (termsOf h) (acceptedOf h)
-given (by-opening line a c e) = ap (λ (x : Answer). x .state) (opened-by c) ∙ opened-is line
+given (by-opening sheet line a c e) = ap (λ (x : Answer). x .state) (opened-by c) ∙ opened-is sheet line
 given (by-feeding {h} {s} g line a c) =
     ap (λ (x : Answer). x .state) (fed-by c) ∙ ap (λ (x : State). feeding x line .state) (given g) ∙ fed-is h line
 
@@ -86,17 +83,17 @@ closes-cells : {h : History} {s : State} → Given h s → WritesCells (termsOf 
 closes-cells {h} g = rw (given g) (cells-written (termsOf h) (acceptedOf h))
 
 sound : {h : History} {s : State} → Given h s → Sound s
-sound (by-opening line a c e) = subst (λ (x : Answer). Sound (x .state)) (sym (opened-by c)) (demand1 .opening-sound line)
+sound (by-opening sheet line a c e) = subst (λ (x : Answer). Sound (x .state)) (sym (opened-by c)) (demand1 .opening-sound sheet line)
 sound (by-feeding {h} {s} g line a c) = subst (λ (x : Answer). Sound (x .state)) (sym (fed-by c)) (demand1 .feeding-sound s line (sound g))
 
 pub calls-demand1 : CallsDemand1
 calls-demand1 = record {
-  opening-numbers = λ {line} {a} c. rw (opened-by c) (demand1 .opening-numbers line);
+  opening-numbers = λ {sheet} {line} {a} c. rw (opened-by c) (demand1 .opening-numbers sheet line);
   feeding-numbers = λ {s} {line} {a} c. rw (fed-by c) (demand1 .feeding-numbers s line);
   closing-numbers = λ {b} {buffer} {after} {r} c. rw (closed-by c .0) (demand1 .closing-numbers b (length buffer));
   cells-numbers = λ {b} {cells} {buffer} {after} {r} c. rw (cells-by c .0) (demand1 .cells-numbers b cells (length buffer));
-  refused-opening = λ {line} {a} c n.
-      ap (λ (x : Answer). x .state) (opened-by c) ∙ demand1 .refused-opening line (λ z. n (ap (λ (x : Answer). x .refusal) (opened-by c) ∙ z));
+  refused-opening = λ {sheet} {line} {a} c n.
+      ap (λ (x : Answer). x .state) (opened-by c) ∙ demand1 .refused-opening sheet line (λ z. n (ap (λ (x : Answer). x .refusal) (opened-by c) ∙ z));
   refused-feeding = λ {s} {line} {a} c n.
       ap (λ (x : Answer). x .state) (fed-by c) ∙ demand1 .refused-feeding s line (λ z. n (ap (λ (x : Answer). x .refusal) (fed-by c) ∙ z));
   refused-closing = λ {b} {buffer} {after} {r} c n.
@@ -119,7 +116,7 @@ cells-number c = ap (λ (x : Closed). x .refusal) (cells-by c .0)
 
 pub calls-demand2 : CallsDemand2
 calls-demand2 = record {
-  openings = λ {line} {a} c. rw (opened-by c) (openings line);
+  openings = λ {sheet} {line} {a} c. rw (opened-by c) (openings sheet line);
   feedings = λ {h} {s} g {line} {a} c. rw (fed-number c ∙ closes g .answers line) (feeding-answer (termsOf h) (acceptedOf h) line);
   closings = λ {h} {s} g {buffer} {after} {r} c. rw (closed-number c
       ∙ closes g .report .refusal (length buffer)) (closing-answer reportSize (termsOf h) (acceptedOf h) (length buffer));
@@ -166,4 +163,25 @@ calls-loan-table = record {
       let t : SameTables s u = rw (given g, same-terms h f e) (same-tables (termsOf h) p) in
       same-by (closingCells (s .book) (s .cells)) (closingCells (u .book) (u .cells)) (closedCells (s .book) (s .cells)) (closedCells (u .book) (u .cells)) t
       x y (cells-by c) (cells-by d) z w;
+}
+
+-- the sheet, which every feeding leaves
+under-sheet : {h : History} {s : State} → Given h s → SheetRules (sheetOf h) × (s .rates ≡ ratesOf (sheetOf h))
+unfolding sheetOf
+under-sheet (by-opening sheet line a c e) =
+    let o = own-factors .opened sheet line (sym (ap (λ (x : Answer). x .refusal) (opened-by c)) ∙ e) in
+    (o .0, ap (λ (x : Answer). x .state .rates) (opened-by c) ∙ o .1)
+under-sheet (by-feeding {h} {s} g line a c) =
+    let (r, k) = under-sheet g in
+    (r, ap (λ (x : Answer). x .state .rates) (fed-by c) ∙ ap (λ (x : State). x .rates) (fed-state s line) ∙ k)
+
+terms-given : {h : History} {s : State} → Given h s → termsOf h ≡ termsIn s
+terms-given g = sym (ap termsIn (given g))
+
+pub calls-own-factors : CallsOwnFactors
+calls-own-factors = record {
+  without = λ c d. opened-by (by-open c) ∙ sym (opened-by (by-open-sheet d));
+  rules = λ g. under-sheet g .0;
+  keeps = λ g. under-sheet g .1;
+  terms = λ {h} {s} g. terms-given g ∙ ap (under (s .book .header)) (under-sheet g .1);
 }

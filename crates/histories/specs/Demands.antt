@@ -1,9 +1,12 @@
--- Demands 1 to 3 of the calls `open`, `feed`, `feed_with`, `close` and `close_cells` themselves, and request L1. Proved in proofs/Demands.antt.
+-- Demands 1 to 3 of the calls `open`, `open_sheet`, `feed`, `feed_with`, `close` and `close_cells` themselves, and requests L1 and L3.
+-- Proved in proofs/Demands.antt.
 use mathlib.Core.Path.{_≡_}
 use mathlib.Core.List.{List, [], _∷_, _++_, List·Memᴰ, List·Permᴰ}
 use mathlib.Core.Logic.{_↔_}
 use Prim.Native.Nat.{ℕ, _≤_}
 use lib.ListN.{length, take}
+use Rattle.loan_charge.specs.CreditFactor.{builtInSheet, ratesOf}
+use Rattle.sheet.specs.Sheet.{SheetRules}
 use Rattle.report.specs.Line.{onto}
 use Rattle.cell_report.specs.CellReport.{cellAt}
 use Rattle.book_model.specs.declared.Book.{Book}
@@ -13,20 +16,21 @@ use Rattle.book_model.specs.Calls.{State, Answer, Sound}
 use Rattle.book_model.specs.Demand1.{refusedState}
 use Rattle.book_model.specs.Demand2.{OpeningAnswer, FeedingAnswer, ClosingAnswer}
 use Rattle.book_model.specs.Demand3.{reportFor, Measured}
-use Rattle.book_model.specs.History.{History, termsOf, acceptedOf, linesTaken}
+use Rattle.book_model.specs.History.{History, sheetOf, termsOf, acceptedOf, linesTaken}
 use Rattle.book_model.specs.LoanTable.{cellFor, cellsFor, CellSums}
-use Rattle.histories.specs.Given.{OpenCall, FeedingCall, CloseCall, CellsCall, Given}
+use Rattle.book_model.specs.Terms.{underSheet}
+use Rattle.histories.specs.Given.{OpenCall, OpenSheetCall, OpeningCall, FeedingCall, CloseCall, CellsCall, Given}
 
 -- Demand 1. That every call comes to an end is part of what it means that it is proved.
 pub record CallsDemand1 : Type 0 where
-  -- The answer is 0, or the number of a refusal that document 01 names for the call.
-  pub opening-numbers : {line : List ℕ} {a : Answer} → OpenCall line a → List·Memᴰ (a .refusal) (0 ∷ 1 ∷ 2 ∷ 7 ∷ 3 ∷ 4 ∷ [])
+  -- The answer is 0, or the number of a refusal that document 01, or a request of 02, names for the call.
+  pub opening-numbers : {sheet line : List ℕ} {a : Answer} → OpeningCall sheet line a → List·Memᴰ (a .refusal) (0 ∷ 1 ∷ 2 ∷ 7 ∷ 3 ∷ 4 ∷ 10 ∷ [])
   pub feeding-numbers : {s : State} {line : List ℕ} {a : Answer} → FeedingCall s line a → List·Memᴰ (a .refusal) (0 ∷ 1 ∷ 2 ∷ 7 ∷ 3 ∷ 5 ∷ 8 ∷ [])
   pub closing-numbers : {b : Book} {buffer after : List ℕ} {r : Closed} → CloseCall b buffer r after → List·Memᴰ (r .refusal) (0 ∷ 6 ∷ 9 ∷ [])
   pub cells-numbers : {b : Book} {cells buffer after : List ℕ} {r : Closed} → CellsCall b cells buffer r after → List·Memᴰ (r .refusal) (0 ∷ 6 ∷ 9 ∷ [])
-  -- Refused, an opening gives the value of an all-zero header, a feeding the same state, every place of its tables included, and a closing
+  -- Refused, an opening gives the value of an all-zero header under the regulator's table, a feeding the same state, every place of its tables included, and a closing
   -- leaves every byte.
-  pub refused-opening : {line : List ℕ} {a : Answer} → OpenCall line a → (a .refusal ≡ 0 → ⊥) → a .state ≡ refusedState
+  pub refused-opening : {sheet line : List ℕ} {a : Answer} → OpeningCall sheet line a → (a .refusal ≡ 0 → ⊥) → a .state ≡ refusedState
   pub refused-feeding : {s : State} {line : List ℕ} {a : Answer} → FeedingCall s line a → (a .refusal ≡ 0 → ⊥) → a .state ≡ s
   pub refused-closing : {b : Book} {buffer after : List ℕ} {r : Closed} → CloseCall b buffer r after → (r .refusal ≡ 0 → ⊥) → after ≡ buffer
   pub refused-cells : {b : Book} {cells buffer after : List ℕ} {r : Closed} → CellsCall b cells buffer r after → (r .refusal ≡ 0 → ⊥) → after ≡ buffer
@@ -35,7 +39,7 @@ pub record CallsDemand1 : Type 0 where
 
 -- Demand 2: each number when and only when its condition holds, by the lines taken.
 pub record CallsDemand2 : Type 0 where
-  pub openings : {line : List ℕ} {a : Answer} → OpenCall line a → OpeningAnswer line a
+  pub openings : {sheet line : List ℕ} {a : Answer} → OpeningCall sheet line a → OpeningAnswer sheet line a
   pub feedings : {h : History} {s : State} → Given h s → {line : List ℕ} {a : Answer} → FeedingCall s line a →
       FeedingAnswer (termsOf h) (acceptedOf h) line (a .refusal)
   pub closings : {h : History} {s : State} → Given h s → {buffer after : List ℕ} {r : Closed} → CloseCall (s .book) buffer r after →
@@ -72,3 +76,13 @@ pub record CallsLoanTable : Type 0 where
   pub alike : {h k : History} {s u : State} → Given h s → Given k u → termsOf h ≡ termsOf k → List·Permᴰ (linesTaken h) (linesTaken k) →
       {x y after-x after-y : List ℕ} {r q : Closed} → CellsCall (s .book) (s .cells) x r after-x → CellsCall (u .book) (u .cells) y q after-y →
       r .refusal ≡ 0 → q .refusal ≡ 0 → (r .length ≡ q .length) × (take (r .length) after-x ≡ take (q .length) after-y)
+
+-- 02, L3, of every state that the calls gave.
+pub record CallsOwnFactors : Type 0 where
+  -- Opening without a sheet is opening under the regulator's table lent as one.
+  pub without : {line : List ℕ} {a b : Answer} → OpenCall line a → OpenSheetCall builtInSheet line b → a ≡ b
+  -- A book is under a sheet that keeps the rules, and has its rates, after whatever lines were fed;
+  pub rules : {h : History} {s : State} → Given h s → SheetRules (sheetOf h)
+  pub keeps : {h : History} {s : State} → Given h s → s .rates ≡ ratesOf (sheetOf h)
+  -- with that sheet demands 2 and 3 speak of it.
+  pub terms : {h : History} {s : State} → Given h s → termsOf h ≡ underSheet (s .book .header) (sheetOf h)

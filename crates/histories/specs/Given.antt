@@ -6,7 +6,7 @@ use contract.Lifetimes.{Lfts}
 use borrow.Fn.Kinds.{Dens, endedOf}
 use denote.Triple.Clauses.{AtExit}
 use denote.Ref.{now}
-use Rattle.loan_charge.specs.CreditFactor.{builtInRates}
+use Rattle.loan_charge.specs.CreditFactor.{builtInSheet}
 use Rattle.book_model.specs.declared.Book.{Book}
 use Rattle.book_model.specs.declared.Closed.{Closed}
 use Rattle.book_model.specs.declared.Fed.{Fed}
@@ -15,6 +15,8 @@ use Rattle.book_model.specs.Calls.{State, Answer, stateAt}
 use Rattle.book_model.specs.History.{History, opened, fed}
 use Rattle.book.proofs.open.Reads as open-reads
 use Rattle.book.proofs.open.Kinds as open-kinds
+use Rattle.book.proofs.open_sheet.Reads as sheet-reads
+use Rattle.book.proofs.open_sheet.Kinds as sheet-kinds
 use Rattle.book.proofs.feed.Reads as feed-reads
 use Rattle.book.proofs.feed.Kinds as feed-kinds
 use Rattle.book.proofs.feed_with.Reads as with-reads
@@ -24,26 +26,42 @@ use Rattle.book.proofs.close.Kinds as close-kinds
 use Rattle.book.proofs.close_cells.Reads as cells-reads
 use Rattle.book.proofs.close_cells.Kinds as cells-kinds
 
--- `open` was called with this line and gave this answer: the refusal and the book by value, the table of cells as it left it
+-- `open` was called with this line and gave this answer: the refusal and the book by value, the tables of rates and cells as it left them
 pub record OpenCall (line : List ℕ) (a : Answer) : Type 0 where
-  pub lifetimes : Lfts 2
+  pub lifetimes : Lfts 3
   pub args : Dens lifetimes open-kinds.ps
   pub result : Opened
-  pub exit : AtExit (endedOf 2 open-kinds.ps open-kinds.r) lifetimes
+  pub exit : AtExit (endedOf 3 open-kinds.ps open-kinds.r) lifetimes
   pub learnt : open-reads.Learnt lifetimes args result exit
   pub lent : now (args .0) ≡ line
-  pub gave : record { refusal = result .refusal; state = stateAt (result .book) builtInRates (now (exit .1 .0)) } ≡ a
+  pub gave : record { refusal = result .refusal; state = stateAt (result .book) (now (exit .1 .0)) (now (exit .1 .1 .0)) } ≡ a
 
--- `feed` was handed this state, which is under the regulator's table, and this line
+-- `open_sheet` was called with this sheet and this line
+pub record OpenSheetCall (sheet line : List ℕ) (a : Answer) : Type 0 where
+  pub lifetimes : Lfts 4
+  pub args : Dens lifetimes sheet-kinds.ps
+  pub result : Opened
+  pub exit : AtExit (endedOf 4 sheet-kinds.ps sheet-kinds.r) lifetimes
+  pub learnt : sheet-reads.Learnt lifetimes args result exit
+  pub lent : now (args .0) ≡ line
+  pub factors : now (args .1 .0) ≡ sheet
+  pub gave : record { refusal = result .refusal; state = stateAt (result .book) (now (exit .1 .1 .0)) (now (exit .1 .1 .1 .0)) } ≡ a
+
+-- either: without a sheet it is the regulator's table
+pub data OpeningCall : (sheet line : List ℕ) → Answer → Type 0 where
+  by-open : {line : List ℕ} {a : Answer} → OpenCall line a → OpeningCall builtInSheet line a
+  by-open-sheet : {sheet line : List ℕ} {a : Answer} → OpenSheetCall sheet line a → OpeningCall sheet line a
+
+-- `feed` was handed this state, its tables lent, and this line
 pub record FeedCall (s : State) (line : List ℕ) (a : Answer) : Type 0 where
-  pub lifetimes : Lfts 2
+  pub lifetimes : Lfts 3
   pub args : Dens lifetimes feed-kinds.ps
   pub result : Fed
-  pub exit : AtExit (endedOf 2 feed-kinds.ps feed-kinds.r) lifetimes
+  pub exit : AtExit (endedOf 3 feed-kinds.ps feed-kinds.r) lifetimes
   pub learnt : feed-reads.Learnt lifetimes args result exit
-  pub handed : stateAt (args .0) builtInRates (now (args .1 .0)) ≡ s
-  pub lent : now (args .1 .1 .0) ≡ line
-  pub gave : record { refusal = result .refusal; state = stateAt (result .book) builtInRates (now (exit .1 .0)) } ≡ a
+  pub handed : stateAt (args .0) (now (args .1 .0)) (now (args .1 .1 .0)) ≡ s
+  pub lent : now (args .1 .1 .1 .0) ≡ line
+  pub gave : record { refusal = result .refusal; state = stateAt (result .book) (now (args .1 .0)) (now (exit .1 .1 .0)) } ≡ a
 
 -- `feed_with` was handed this state, its tables lent, and this line
 pub record FeedWithCall (s : State) (line : List ℕ) (a : Answer) : Type 0 where
@@ -85,5 +103,5 @@ pub record CellsCall (b : Book) (cells buffer : List ℕ) (r : Closed) (after : 
 -- The calls of a history gave this state: an opening that was not refused, and feedings, each handed what the call before gave back, its
 -- tables as that call left them.
 pub data Given : History → State → Type 0 where
-  by-opening : (line : List ℕ) (a : Answer) → OpenCall line a → a .refusal ≡ 0 → Given (opened line) (a .state)
+  by-opening : (sheet line : List ℕ) (a : Answer) → OpeningCall sheet line a → a .refusal ≡ 0 → Given (opened sheet line) (a .state)
   by-feeding : {h : History} {s : State} → Given h s → (line : List ℕ) (a : Answer) → FeedingCall s line a → Given (fed h line) (a .state)

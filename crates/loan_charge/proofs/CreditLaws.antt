@@ -11,7 +11,7 @@ use native.Mathlib.Omega.{arith}
 use lib.Dec.{T, leb, ltb, leb→le}
 use lib.ListN.{length, getD}
 use Rattle.exact.specs.Choice.{pick}
-use Rattle.loan_charge.specs.CreditFactor.{hundredths, count, band, column, columnServing, builtInRates, scoredFactor, unscoredFactor}
+use Rattle.loan_charge.specs.CreditFactor.{hundredths, count, band, column, columnServing, builtInRates, builtInSheet, scoredFactor, unscoredFactor}
 use Rattle.loan_charge.specs.CreditFactor.{creditFactor, FactorInRange, RatesInRange}
 use Rattle.loan_charge.specs.declared.Score.{Score}
 use Rattle.loan_charge.specs.declared.Score.the-variants.{Scored, Unscored}
@@ -85,7 +85,7 @@ rate-at (m ∷ ms) t (suc k) h =
     rate-at ms (parts (leb (hundredths 1) m) (leb m (hundredths 300)) (every ms) t .2) k (le-of-suc-le-suc h)
 
 pub built-in : RatesInRange builtInRates
-unfolding builtInRates
+unfolding builtInSheet
 built-in = record { each = rate-at builtInRates tt }
 
 pub in-range : (rates : List ℕ) → RatesInRange rates → (aged : Bool) (loans unscored : ℕ) (score : Score)

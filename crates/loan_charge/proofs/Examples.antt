@@ -3,7 +3,7 @@ use mathlib.Core.Path.{refl}
 use lib.Dec.{lit≤}
 use Rattle.exact.proofs.Dependence.{equals-of}
 use Rattle.loan_charge.specs.Charge.{gaussExponent, valueRatio}
-use Rattle.loan_charge.specs.CreditFactor.{count, band, column, columnServing, builtInRates, scoredFactor, unscoredFactor, creditFactor}
+use Rattle.loan_charge.specs.CreditFactor.{count, band, column, columnServing, builtInRates, builtInSheet, scoredFactor, unscoredFactor, creditFactor}
 use Rattle.loan_charge.specs.Examples.{Example5, Example6, Example7}
 
 pub example5 : Example5
@@ -11,7 +11,7 @@ unfolding gaussExponent valueRatio
 example5 = record { at-balance = equals-of (lit≤ tt) (lit≤ tt) refl; below-balance = equals-of (lit≤ tt) (lit≤ tt) refl }
 
 pub example6 : Example6
-unfolding creditFactor scoredFactor band column columnServing count builtInRates
+unfolding creditFactor scoredFactor band column columnServing count builtInSheet
 example6 = record { at719 = λ loans unscored. refl; at720 = λ loans unscored. refl }
 
 pub example7 : Example7

@@ -31,11 +31,14 @@ column age = count (λ limit. ltb limit age) (12 ∷ 24 ∷ 36 ∷ 48 ∷ 60 ∷
 unfoldable pub columnServing : Bool → ℕ → ℕ
 columnServing aged age = pick aged (column age) 0
 
--- Table iii: eleven bands, six ages each.
-unfoldable pub builtInRates : List ℕ
-builtInRates =
-    map hundredths
-    (300 ∷ 300 ∷ 300 ∷ 300 ∷ 300 ∷ 300
+-- The entry of a table for a band, 0 to 10, and an age, 0 to 5: bands upward, six ages each.
+abbrev pub entryAt : List ℕ → (band age : ℕ) → ℕ
+entryAt table band age = getD table (band * 6 + age) 0
+
+-- Table iii, in hundredths.
+unfoldable pub builtInSheet : List ℕ
+builtInSheet =
+    300 ∷ 300 ∷ 300 ∷ 300 ∷ 300 ∷ 300
     ∷ 205 ∷ 205 ∷ 205 ∷ 205 ∷ 205 ∷ 205
     ∷ 180 ∷ 180 ∷ 180 ∷ 180 ∷ 180 ∷ 180
     ∷ 160 ∷ 160 ∷ 160 ∷ 160 ∷ 160 ∷ 160
@@ -46,11 +49,18 @@ builtInRates =
     ∷ 55 ∷ 65 ∷ 90 ∷ 100 ∷ 100 ∷ 100
     ∷ 45 ∷ 55 ∷ 65 ∷ 90 ∷ 100 ∷ 100
     ∷ 40 ∷ 45 ∷ 55 ∷ 65 ∷ 90 ∷ 100
-    ∷ [])
+    ∷ []
+
+-- the rates of a sheet of factors in hundredths
+abbrev pub ratesOf : List ℕ → List ℕ
+ratesOf sheet = map hundredths sheet
+
+abbrev pub builtInRates : List ℕ
+builtInRates = ratesOf builtInSheet
 
 -- The factor of a table of rates for a score and its age.
 unfoldable pub scoredFactor : List ℕ → Bool → ℕ → ℕ → ℕ
-scoredFactor rates aged number age = getD rates (band number * 6 + columnServing aged age) 0
+scoredFactor rates aged number age = entryAt rates (band number) (columnServing aged age)
 
 -- Without a score: 1.3, or 3.0 where more than 5% of the loans have none.
 unfoldable pub unscoredFactor : ℕ → ℕ → ℕ

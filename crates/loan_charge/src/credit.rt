@@ -3,86 +3,12 @@ use crate::Score;
 ghost use mathlib.Core.Path.{_≡_};
 ghost use Prim.Native.Nat.{_<_, _≤_};
 ghost use Rattle.loan_charge.specs.Computation.{reachedOf};
-ghost use Rattle.loan_charge.specs.CreditFactor.{band, column, columnServing, builtInRates, scoredFactor, unscoredFactor, creditFactor};
+ghost use Rattle.loan_charge.specs.CreditFactor.{band, column, columnServing, scoredFactor, unscoredFactor, creditFactor};
 
 // How many rates a table has: eleven bands of scores, six ages each.
 pub const RATES: usize = 66;
 
 pub type Rates = [u64; RATES];
-
-// The regulator's table: eleven bands of scores, six ages each. It is made once and lent, since a constant array would be stored at every use.
-pub fn rates() -> Rates
-    ensures { λ r. ⌜ r ≡ builtInRates ⌝ }
-{
-    [
-        300000000000000000,
-        300000000000000000,
-        300000000000000000,
-        300000000000000000,
-        300000000000000000,
-        300000000000000000,
-        205000000000000000,
-        205000000000000000,
-        205000000000000000,
-        205000000000000000,
-        205000000000000000,
-        205000000000000000,
-        180000000000000000,
-        180000000000000000,
-        180000000000000000,
-        180000000000000000,
-        180000000000000000,
-        180000000000000000,
-        160000000000000000,
-        160000000000000000,
-        160000000000000000,
-        160000000000000000,
-        160000000000000000,
-        160000000000000000,
-        135000000000000000,
-        135000000000000000,
-        135000000000000000,
-        135000000000000000,
-        135000000000000000,
-        135000000000000000,
-        110000000000000000,
-        110000000000000000,
-        110000000000000000,
-        110000000000000000,
-        110000000000000000,
-        110000000000000000,
-        90000000000000000,
-        100000000000000000,
-        100000000000000000,
-        100000000000000000,
-        100000000000000000,
-        100000000000000000,
-        65000000000000000,
-        90000000000000000,
-        100000000000000000,
-        100000000000000000,
-        100000000000000000,
-        100000000000000000,
-        55000000000000000,
-        65000000000000000,
-        90000000000000000,
-        100000000000000000,
-        100000000000000000,
-        100000000000000000,
-        45000000000000000,
-        55000000000000000,
-        65000000000000000,
-        90000000000000000,
-        100000000000000000,
-        100000000000000000,
-        40000000000000000,
-        45000000000000000,
-        55000000000000000,
-        65000000000000000,
-        90000000000000000,
-        100000000000000000,
-    ]
-}
 
 // How many of the limits low, low + step, .., of which there are `most`, are at or below x: by one division, with no test of each.
 fn reached(x: u64, low: u64, step: u64, most: u64) -> u64

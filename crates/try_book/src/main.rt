@@ -1,14 +1,15 @@
 // Makes the calls of standard input and prints what each answers. Each line is a call on the book that the last one gave back:
-// `o` and a header line opens a book, `f` and a line feeds it, `c` and a number closes it into so many bytes of a buffer of 640,
-// `t` and a number closes its table of cells into so many of a buffer of 8,320. A closing prints the whole buffer, in which every byte
-// was `.` before.
+// `o` and a header line opens a book, `n` and a list of numbers makes them the sheet of factors under which `s` and a header line opens
+// one, `f` and a line feeds it, `c` and a number closes it into so many bytes of a buffer of 640, `t` and a number closes its table of
+// cells into so many of a buffer of 8,320. A closing prints the whole buffer, in which every byte was `.` before.
 ghost use Prim.Native.Nat.{_≤_, _<_};
 ghost use lib.ListN.{length};
 ghost use Rattle.book_model.specs.Calls.{stateAt, SoundBook, Sound};
-ghost use Rattle.loan_charge.specs.CreditFactor.{builtInRates};
 use book_model::Book;
 use book_model::Closed;
 use cell_report::Cells;
+use loan_charge::credit::Rates;
+use sheet_file::Room;
 
 // The buffers of the two closings.
 const REPORT: usize = 640;
@@ -20,20 +21,55 @@ fn print_answer(call: &[u8], refusal: u64) {
     io::print_decimal(1, refusal);
 }
 
-fn open(line: &[u8], cells: &mut Cells) -> Book
-    ensures { λ r. ⌜ Sound (stateAt r builtInRates (now (cells .exit))) ⌝ }
+fn open(line: &[u8], rates: &mut Rates, cells: &mut Cells) -> Book
+    ensures { λ r. ⌜ Sound (stateAt r (now (rates .exit)) (now (cells .exit))) ⌝ }
 {
-    let opened = book::open(line, cells);
+    let opened = book::open(line, rates, cells);
     print_answer(b"o ", opened.refusal);
     io::write_all(1, b"\n");
     opened.book
 }
 
-fn feed(b: Book, cells: &mut Cells, line: &[u8]) -> Book
-    requires { ⌜ Sound (stateAt b builtInRates (now cells)) ⌝ }
-    ensures { λ r. ⌜ Sound (stateAt r builtInRates (now (cells .exit))) ⌝ }
+// How many numbers the text has, put into the room; none where it is no list of numbers.
+fn numbers_of(text: &[u8], room: &mut Room) -> usize
+    ensures { λ r. ⌜ r ≤ length (now (room .exit)) ⌝ }
 {
-    let fed = book::feed(b, cells, line);
+    let found = sheet_file::numbers_in(text, room);
+    if !found.good {
+        return 0;
+    }
+    found.count
+}
+
+// Under the sheet of these numbers.
+fn open_sheet(line: &[u8], numbers: &[u8], rates: &mut Rates, cells: &mut Cells) -> Book
+    ensures { λ r. ⌜ Sound (stateAt r (now (rates .exit)) (now (cells .exit))) ⌝ }
+{
+    let mut room = [0u64; sheet_file::MOST];
+    let count = numbers_of(numbers, &mut room);
+    let opened = book::open_sheet(line, &room[0..count], rates, cells);
+    print_answer(b"s ", opened.refusal);
+    io::write_all(1, b"\n");
+    opened.book
+}
+
+// How many numbers the sheet has.
+fn tell_numbers(text: &[u8]) {
+    let mut room = [0u64; sheet_file::MOST];
+    let found = sheet_file::numbers_in(text, &mut room);
+    if found.good {
+        print_answer(b"n ", found.count as u64);
+        io::write_all(1, b"\n");
+    } else {
+        io::write_all(1, b"n bad\n");
+    }
+}
+
+fn feed(b: Book, rates: &Rates, cells: &mut Cells, line: &[u8]) -> Book
+    requires { ⌜ Sound (stateAt b (now rates) (now cells)) ⌝ }
+    ensures { λ r. ⌜ Sound (stateAt r (now (rates .entry)) (now (cells .exit))) ⌝ }
+{
+    let fed = book::feed(b, rates, cells, line);
     print_answer(b"f ", fed.refusal);
     io::write_all(1, b"\n");
     fed.book
@@ -86,56 +122,96 @@ fn close_cells(b: Book, cells: &Cells, digits: &[u8]) {
     print_table(closed, &out);
 }
 
-// One call; an empty line is none.
-fn call(b: Book, cells: &mut Cells, line: &[u8]) -> Book
-    requires { ⌜ Sound (stateAt b builtInRates (now cells)) ⌝ }
-    ensures { λ r. ⌜ Sound (stateAt r builtInRates (now (cells .exit))) ⌝ }
+// One call that opens a book, feeds it or closes it; `numbers` are the sheet's.
+fn call_book(
+    b: Book,
+    numbers: &[u8],
+    rates: &mut Rates,
+    cells: &mut Cells,
+    kind: u8,
+    rest: &[u8],
+) -> Book
+    requires { ⌜ Sound (stateAt b (now rates) (now cells)) ⌝ }
+    ensures { λ r. ⌜ Sound (stateAt r (now (rates .exit)) (now (cells .exit))) ⌝ }
 {
-    if line.len() == 0 {
-        return b;
-    }
-    let kind = line[0];
     if kind == b'o' {
-        return open(&line[1..], cells);
+        return open(rest, rates, cells);
+    }
+    if kind == b's' {
+        return open_sheet(rest, numbers, rates, cells);
     }
     if kind == b'f' {
-        return feed(b, cells, &line[1..]);
+        return feed(b, rates, cells, rest);
     }
     if kind == b't' {
-        close_cells(b, cells, &line[1..]);
+        close_cells(b, cells, rest);
         return b;
     }
-    close(b, &line[1..]);
+    close(b, rest);
     b
 }
 
-// The book after a call, and where the next line begins.
-struct Turn {
+// The book after a call, and where in the input the numbers of the sheet stand.
+struct Held {
     b: Book,
+    from: usize,
+    to: usize,
+}
+
+// The call of the line that stands there; an empty line is none.
+fn call(held: Held, rates: &mut Rates, cells: &mut Cells, s: &[u8], at: usize, end: usize) -> Held
+    requires { ⌜ Sound (stateAt (held .b) (now rates) (now cells)) × (held .from ≤ held .to) × (held .to ≤ length (now s)) × (at ≤ end)
+        × (end ≤ length (now s)) ⌝ }
+    ensures { λ r. ⌜ Sound (stateAt (r .b) (now (rates .exit)) (now (cells .exit))) × (r .from ≤ r .to) × (r .to ≤ length (now (s .entry))) ⌝ }
+{
+    if end <= at {
+        return held;
+    }
+    let kind = s[at];
+    let rest = at + 1;
+    let from = held.from;
+    let to = held.to;
+    let before = held.b;
+    if kind == b'n' {
+        tell_numbers(&s[rest..end]);
+        return Held {
+            b: before,
+            from: rest,
+            to: end,
+        };
+    }
+    let b = call_book(before, &s[from..to], rates, cells, kind, &s[rest..end]);
+    Held { b, from, to }
+}
+
+// What a call left, and where the next line begins.
+struct Turn {
+    held: Held,
     at: usize,
 }
 
-// The call of the line that begins there.
-fn call_at(b: Book, cells: &mut Cells, s: &[u8], at: usize) -> Turn
-    requires { ⌜ Sound (stateAt b builtInRates (now cells)) × (at < length (now s)) ⌝ }
-    ensures { λ r. ⌜ Sound (stateAt (r .b) builtInRates (now (cells .exit))) × (at < r .at) ⌝ }
+fn call_at(held: Held, rates: &mut Rates, cells: &mut Cells, s: &[u8], at: usize) -> Turn
+    requires { ⌜ Sound (stateAt (held .b) (now rates) (now cells)) × (held .from ≤ held .to) × (held .to ≤ length (now s)) × (at < length (now s)) ⌝ }
+    ensures { λ r. ⌜ Sound (stateAt (r .held .b) (now (rates .exit)) (now (cells .exit))) × (r .held .from ≤ r .held .to)
+        × (r .held .to ≤ length (now (s .entry))) × (at < r .at) ⌝ }
 {
     let end = bytes::scan::find(s, at, s.len(), b'\n');
-    let next = call(b, cells, &s[at..end]);
+    let next = call(held, rates, cells, s, at, end);
     Turn {
-        b: next,
+        held: next,
         at: end + 1,
     }
 }
 
-// The calls of the input, on the book of a refused opening at first.
-fn call_all(s: &[u8], cells: &mut Cells) {
-    let opened = book::open(b"", cells);
-    let mut b = opened.book;
+// The calls of the input, on the book of a refused opening and with an empty sheet at first.
+fn call_all(s: &[u8], rates: &mut Rates, cells: &mut Cells) {
+    let opened = book::open(b"", rates, cells);
+    let b = opened.book;
+    let mut held = Held { b, from: 0, to: 0 };
     let mut at = 0;
     while at < s.len() {
-        let turn = call_at(b, cells, s, at);
-        b = turn.b;
+        let turn = call_at(held, rates, cells, s, at);
+        held = turn.held;
         at = turn.at;
     }
 }
@@ -144,6 +220,7 @@ fn main() {
     let mut buf = io::large_buffer();
     let input = cases::read_input(&mut buf);
     let n = input.count;
+    let mut rates = [0u64; loan_charge::credit::RATES];
     let mut cells = [0u64; cell_report::PLACES];
-    call_all(&buf[0..n], &mut cells);
+    call_all(&buf[0..n], &mut rates, &mut cells);
 }

@@ -255,6 +255,6 @@ fn try_all(table: &Exponentials, rates: &Rates) -> Tally
 
 fn main() {
     let table = loan_charge::charge::table();
-    let rates = loan_charge::credit::rates();
+    let rates = sheet::built_in_rates();
     cases::print_tally(try_all(&table, &rates));
 }

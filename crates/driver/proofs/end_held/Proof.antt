@@ -8,16 +8,16 @@ use Rattle.driver.proofs.end_held.Statement.{statement}
 use Rattle.driver.proofs.end_held.Tie as tie
 
 part-lines-end : tie.Need-part-lines-end
-part-lines-end c = omega (arith, length-set (c .before .before .before .args .tail .now) (c .before .before .before .args .held) 10)
+part-lines-end c = omega (arith, length-set (c .before .before .before .before .before .args .tail .now) (c .before .before .before .before .before .args .held) 10)
 
 returns : tie.Need-returns
 returns c =
-    let a = c .before .before .before .before .before .before .args in
-    let p = c .before .before .before .before .before .before .pre in
+    let a = c .before .before .before .before .before .before .before .before .args in
+    let p = c .before .before .before .before .before .before .before .before .pre in
     let l = c .before .lines in
-    held-ended (stageAt (a .p) (a .rates .now) (a .cells .now)) (a .tail .now) (a .held) (l .result .rest)
-    (stageAt (l .result .progress) (a .rates .now) (l .last .1 .1 .1 .0)) (p .4) (p .5) (p .6) (p .0) (l .ensures .0) (l .ensures .1 .0 .0)
-    (l .ensures .1 .0 .1)
+    held-ended (stageAt (a .p) (a .sheet .now) (a .rates .now) (a .cells .now)) (a .tail .now) (a .held) (l .result .rest)
+    (stageAt (l .result .progress) (a .sheet .now) (l .last .1 .1 .1 .0) (l .last .1 .1 .1 .1 .0)) (p .3) (p .4) (p .5) (p .0) (l .ensures .0)
+    (l .ensures .1 .0 .0) (l .ensures .1 .0 .1)
 
 pub end-held-spec : {M : Type 1} → statement M
 end-held-spec =

@@ -13,37 +13,31 @@ use Rattle.driver.proofs.finish.Statement.{statement}
 use Rattle.driver.proofs.finish.Tie as tie
 
 put-answer-requires : tie.Need-put-answer-requires
-put-answer-requires c κs = (rw (c .before .before .before .before .before .pre .3) at (c .before .before .before .before .before .pre .0 .sound), search needs)
+put-answer-requires c κs = let sound = c .before .before .before .before .before .before .pre .0 .sound in (sound .book, sound .cells, search needs)
 
 returns : tie.Need-returns
 unfolding endedWith
 returns c =
-    let start = c .before .before .before .before .before .before .before .before in
+    let start = c .before .before .before .before .before .before .before .before .before in
     let a = start .args in
     let e : a .run .held ≡ 0 = c .before .before .before .before .before .if1 .taken in
-    prints (a .asked) (readingOf (a .run) (now (a .rates)) (now (a .cells))) (rw (e, start .pre .3) (c .before .before .put-answer .ensures))
+    prints (a .asked) (readingOf (a .run) (now (a .sheet)) (now (a .rates)) (now (a .cells))) (rw e (c .before .before .put-answer .ensures))
 
 put-answer-requires-2 : tie.Need-put-answer-requires-2
-put-answer-requires-2 c κs = (
-  rw (c .before .before .before .before .before .before .before .before .before .before .pre .3) at
-      (c .before .before .before .end-held .ensures .1 .0),
-  search needs,
-)
+put-answer-requires-2 c κs = let sound = c .before .before .before .end-held .ensures .1 .0 in (sound .book, sound .cells, search needs)
 
 returns-2 : tie.Need-returns-2
 returns-2 c =
-    let start = c .before .before .before .before .before .before .before .before .before .before .before .before .before in
+    let start = c .before .before .before .before .before .before .before .before .before .before .before .before .before .before .before in
     let a = start .args in
     let line = take (a .run .held) (a .run .tail) in
     let n : length (take (a .run .held) (a .run .tail)) ≡ a .run .held =
     length-take-le (a .run .held) (a .run .tail) (omega (arith, start .pre .0 .held, start .pre .0 .room)) in
     let e = c .before .before .before .before .before .before .end-held .ensures .0 in
-    prints (a .asked) (readingOf (a .run) (now (a .rates)) (now (a .cells)))
+    prints (a .asked) (readingOf (a .run) (now (a .sheet)) (now (a .rates)) (now (a .cells)))
     (rw (
-      ended-line (stageAt (a .run .progress) (now (a .rates)) (now (a .cells))) line
-          (omega (arith, c .before .before .before .before .before .before .before .before .before .before .if1 .left)),
+      ended-line (stageAt (a .run .progress) (now (a .sheet)) (now (a .rates)) (now (a .cells))) line (omega (arith, c .before .before .before .before .before .before .before .before .before .before .before .if1 .left)),
       ← e,
-      start .pre .3,
     )
     (c .before .before .put-answer2 .ensures))
 

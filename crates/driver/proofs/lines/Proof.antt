@@ -7,7 +7,6 @@ use lib.ListN.{length, take, drop, length-drop}
 use lib.Seq.{drop-length}
 use borrow.Author.Needs.{needs}
 use Rattle.loan_charge.specs.Tables.{exponentials}
-use Rattle.loan_charge.specs.CreditFactor.{builtInRates}
 use Rattle.book_model.specs.Calls.{stateAt, Sound}
 use Rattle.driver.specs.Reading.{unbroken, withBytes, stageAt}
 use Rattle.driver.proofs.Bytes.{line-read, none-found}
@@ -15,12 +14,12 @@ use Rattle.driver.proofs.lines.Statement.{statement}
 use Rattle.driver.proofs.lines.Tie as tie
 
 abbrev Inv-loop : tie.InvT-loop
-Inv-loop exps rates cells₀ bytes size p₀ i₀ cells p i =
-    (record { stage = stageAt p rates cells; tail = [] } ≡ withBytes (record { stage = stageAt p₀ rates cells₀; tail = [] }) (take i bytes))
-    × Sound (stateAt (p .book) rates cells) × (p .number ≤ p₀ .number + i) × (i ≤ length bytes) × (exps ≡ exponentials) × (rates ≡ builtInRates)
+Inv-loop exps sheet rates₀ cells₀ bytes size p₀ i₀ rates cells p i =
+    (record { stage = stageAt p sheet rates cells; tail = [] } ≡ withBytes (record { stage = stageAt p₀ sheet rates₀ cells₀; tail = [] }) (take i bytes))
+    × Sound (stateAt (p .book) rates cells) × (p .number ≤ p₀ .number + i) × (i ≤ length bytes) × (exps ≡ exponentials)
 
 abbrev μ-loop : tie.MeasureT-loop
-μ-loop exps rates cells₀ bytes size p₀ i₀ cells p i = length bytes - i
+μ-loop exps sheet rates₀ cells₀ bytes size p₀ i₀ rates cells p i = length bytes - i
 
 loop-holds : tie.Need-loop-holds Inv-loop μ-loop
 unfolding withBytes
@@ -32,9 +31,8 @@ line-end-requires c κs = search needs
 returns : tie.Need-returns Inv-loop μ-loop
 returns c =
     let l = c .before .before .before .loop in
-    let bytes = c .before .before .before .before .before .args .bytes .now in
-    let n : length (drop (l .i) (c .before .before .before .before .before .args .bytes .now)) ≡ length
-    (c .before .before .before .before .before .args .bytes .now) - l .i = length-drop (l .i) bytes in (
+    let bytes = c .before .before .before .before .before .before .args .bytes .now in
+    let n : length (drop (l .i) (c .before .before .before .before .before .before .args .bytes .now)) ≡ length (c .before .before .before .before .before .before .args .bytes .now) - l .i = length-drop (l .i) bytes in (
       l .inv .0,
       (
         (
@@ -57,36 +55,35 @@ part-end-line-end c = search needs
 
 end-line-requires : tie.Need-end-line-requires Inv-loop μ-loop
 end-line-requires c κs =
-    let l = c .before .before .before .before .before .loop in
-    (l .inv .1, omega (arith, c .before .before .before .before .before .before .before .pre .1), l .inv .4, l .inv .5)
+    let l = c .before .before .before .before .before .before .loop in
+    (l .inv .1, omega (arith, c .before .before .before .before .before .before .before .before .before .pre .1), l .inv .4)
 
 add-i : tie.Need-add-i Inv-loop μ-loop
-add-i c = record { fits = omega (arith, c .before .before .before .before .before .before .before .before .pre .1, c .before .before .before .if1 .left) }
+add-i c = record { fits = omega (arith, c .before .before .before .before .before .before .before .before .before .before .pre .1, c .before .before .before .before .if1 .left) }
 
 loop-less : tie.Need-loop-less Inv-loop μ-loop
 loop-less c = search needs
 
 loop-again : tie.Need-loop-again Inv-loop μ-loop
 loop-again c =
-    let a = c .before .before .before .before .before .before .before .before .args in
-    let l = c .before .before .before .before .before .before .loop in
-    let e = c .before .before .before .before .line-end in (
+    let a = c .before .before .before .before .before .before .before .before .before .before .args in
+    let l = c .before .before .before .before .before .before .before .loop in
+    let e = c .before .before .before .before .before .line-end in (
       (λ j. record { stage = c .end-line .ensures .0 j; tail = [] })
-          ∙ sym (line-read (record { stage = stageAt (a .before) (a .rates .now) (a .cells .now); tail = [] }) (a .bytes .now)
-          (stageAt (l .p) (a .rates .now) (l .cells)) (l .i) (e .result) (l .inv .0) (omega arith) (e .ensures .0) (omega arith)),
+          ∙ sym (line-read (record { stage = stageAt (a .before) (a .sheet .now) (a .rates .now) (a .cells .now); tail = [] }) (a .bytes .now)
+          (stageAt (l .p) (a .sheet .now) (l .rates) (l .cells)) (l .i) (e .result) (l .inv .0) (omega arith) (e .ensures .0) (omega arith)),
       c .end-line .ensures .1 .0,
       omega (arith, c .end-line .ensures .1 .1, l .inv .2, e .ensures .1),
       omega arith,
       l .inv .4,
-      l .inv .5,
     )
 
 returns-2 : tie.Need-returns-2 Inv-loop μ-loop
 unfolding unbroken
 returns-2 c =
     let l = c .before .loop in
-    let bytes = c .before .before .before .args .bytes .now in
-    let e : l .i ≡ length (c .before .before .before .args .bytes .now) = omega arith in
+    let bytes = c .before .before .before .before .args .bytes .now in
+    let e : l .i ≡ length (c .before .before .before .before .args .bytes .now) = omega arith in
     (l .inv .0, ((l .inv .3, ap (λ (n : ℕ). unbroken (drop n bytes)) e ∙ ap unbroken (drop-length bytes)), (l .inv .1, l .inv .2)))
 
 pub lines-spec : {M : Type 1} → statement M

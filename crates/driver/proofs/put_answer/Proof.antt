@@ -3,15 +3,15 @@ use denote.Ref.{now}
 use native.Mathlib.Omega.{arith}
 use lib.ListN.{length}
 use borrow.Author.Needs.{needs}
-use Rattle.loan_charge.specs.CreditFactor.{builtInRates}
+use mathlib.Core.List.{[]}
 use Rattle.driver.specs.Reading.{Stage, stageAt}
 use Rattle.driver.proofs.Answers.{refusal-room, printed-refused, printed-empty, printed-end}
 use Rattle.driver.proofs.put_answer.Statement.{statement}
 use Rattle.driver.proofs.put_answer.Tie as tie
 
--- the stage that the call is handed
+-- the stage that the call is handed; what is printed does not depend on its sheet and rates
 stageFor : tie.Start → Stage
-stageFor c = stageAt (c .args .p) builtInRates (now (c .args .cells))
+stageFor c = stageAt (c .args .p) [] [] (now (c .args .cells))
 
 put-refusal-requires : tie.Need-put-refusal-requires
 put-refusal-requires c κs =

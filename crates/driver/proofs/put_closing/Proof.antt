@@ -2,16 +2,9 @@
 use denote.Ref.{now}
 use native.Mathlib.Omega.{arith}
 use borrow.Author.Needs.{needs}
-use Rattle.loan_charge.specs.CreditFactor.{builtInRates}
-use Rattle.book_model.specs.Calls.{State, stateAt}
-use Rattle.book_model.proofs.Demand1.{demand1}
-use Rattle.driver.proofs.Answers.{refusal-room, closing-refused, closing-enough, report-room, report-alone, report-and-table}
+use Rattle.driver.proofs.Answers.{refusal-room, closing-refused, closing-enough, report-room, table-room, report-alone, report-and-table}
 use Rattle.driver.proofs.put_closing.Statement.{statement}
 use Rattle.driver.proofs.put_closing.Tie as tie
-
--- the state that the call is handed
-stateFor : tie.Start → State
-stateFor c = stateAt (c .args .b) builtInRates (now (c .args .cells))
 
 put-refusal-requires : tie.Need-put-refusal-requires
 put-refusal-requires c κs =
@@ -19,12 +12,11 @@ put-refusal-requires c κs =
     refusal-room 6 (start .args .number) _ (omega arith) (omega arith) (search needs)
 
 returns : tie.Need-returns
-unfolding stateFor
 returns c =
     let start = c .before .before .before .before .before .before .before .before .before .before .before in
     let a = start .args in
     let d = c .before .before .before .before .before .before .before .before .close in
-    let k = closing-refused (a .asked) (stateFor start) (now (a .out)) (start .pre .1) (d .ensures .0) (d .ensures .1)
+    let k = closing-refused (a .asked) (a .b) (now (a .cells)) (now (a .out)) (start .pre .2) (d .ensures .0) (d .ensures .1)
     (c .before .before .before .before .if1 .taken) in
     rw (k .1 (a .number), ← k .0) (c .before .before .put-refusal .ensures)
 
@@ -34,7 +26,7 @@ sub-put-table c =
     let start = c .before .before .before .before .before .before .before .before in
     omega (
       arith,
-      report-room (start .args .b) (start .pre .0 .book) (now (start .args .out)) (c .before .before .before .before .before .close .ensures .0)
+      report-room (start .args .b) (start .pre .0) (now (start .args .out)) (c .before .before .before .before .before .close .ensures .0)
           (c .before .if1 .left),
     )
 
@@ -43,50 +35,46 @@ part-put-table-start c =
     let start = c .before .before .before .before .before .before .before .before in
     omega (
       arith,
-      report-room (start .args .b) (start .pre .0 .book) (now (start .args .out)) (c .before .before .before .before .before .close .ensures .0)
+      report-room (start .args .b) (start .pre .0) (now (start .args .out)) (c .before .before .before .before .before .close .ensures .0)
           (c .before .if1 .left),
     )
 
 put-table-requires : tie.Need-put-table-requires
-unfolding stateFor
 put-table-requires c κs =
     let start = c .before .before .before .before .before .before .before .before .before in
     let a = start .args in
     let d = c .before .before .before .before .before .before .close in (
-      closing-enough (a .asked) (stateFor start) (now (a .out)) (start .pre .1) (d .ensures .0) (d .ensures .1) (c .before .before .if1 .left),
-      omega (arith, report-room (a .b) (start .pre .0 .book) (now (a .out)) (d .ensures .0) (c .before .before .if1 .left)),
+      closing-enough (a .asked) (a .b) (now (a .cells)) (now (a .out)) (start .pre .2) (d .ensures .0) (d .ensures .1) (c .before .before .if1 .left),
+      omega (arith, report-room (a .b) (start .pre .0) (now (a .out)) (d .ensures .0) (c .before .before .if1 .left)),
     )
 
 add-result : tie.Need-add-result
-unfolding stateFor
 add-result c =
     let start = c .before .before .before .before .before .before .before .before .before .before .before .before in
     let a = start .args in
     let d = c .before .before .before .before .before .before .before .before .before .close in
     omega (
       arith,
-      report-room (a .b) (start .pre .0 .book) (now (a .out)) (d .ensures .0) (c .before .before .before .before .before .if1 .left),
+      report-room (a .b) (start .pre .0) (now (a .out)) (d .ensures .0) (c .before .before .before .before .before .if1 .left),
       c .before .before .put-table .ensures .count,
-      demand1 .cells-fit (stateFor start) (start .pre .0),
+      table-room (a .b) (start .pre .0) (now (a .cells)) (start .pre .1),
     )
 
 returns-2 : tie.Need-returns-2
-unfolding stateFor
 returns-2 c =
     let start = c .before .before .before .before .before .before .before .before .before .before .before .before in
     let a = start .args in
     let d = c .before .before .before .before .before .before .before .before .before .close in
-    report-and-table (a .asked) (stateFor start) (now (a .out)) (start .pre .1) (d .ensures .0) (d .ensures .1)
+    report-and-table (a .asked) (a .b) (now (a .cells)) (now (a .out)) (start .pre .2) (d .ensures .0) (d .ensures .1)
     (c .before .before .before .before .before .if1 .left)
     (c .before .before .before .before .if2 .taken) (a .number) (c .before .before .put-table .ensures)
 
 returns-3 : tie.Need-returns-3
-unfolding stateFor
 returns-3 c =
     let start = c .before .before .before .before .before .before .before .before in
     let a = start .args in
     let d = c .before .before .before .before .before .close in
-    report-alone (a .asked) (stateFor start) (now (a .out)) (start .pre .1) (d .ensures .0) (d .ensures .1) (c .before .if1 .left) (c .if2 .left) (a .number)
+    report-alone (a .asked) (a .b) (now (a .cells)) (now (a .out)) (start .pre .2) (d .ensures .0) (d .ensures .1) (c .before .if1 .left) (c .if2 .left) (a .number)
 
 pub put-closing-spec : {M : Type 1} → statement M
 put-closing-spec =
