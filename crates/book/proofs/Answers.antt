@@ -25,18 +25,19 @@ use Rattle.book_model.specs.declared.Book.{Book}
 use Rattle.book_model.specs.declared.Opened.{Opened}
 use Rattle.book_model.specs.declared.Fed.{Fed}
 use Rattle.book_model.specs.Accepted.{loanBeyond, loanRefusal, otherRefusal, refusalFor}
-use Rattle.book_model.specs.Calls.{State, Answer, stateAt, termsIn, openedOf, fedOf, emptyBook, openingRefusal, openingFor, opening, refusalIn, bookAfter}
+use Rattle.book_model.specs.Calls.{State, Answer, stateAt, termsIn, openedOf, fedOf, emptyBook, openingFor, opening, refusalIn, bookAfter}
 use Rattle.book_model.specs.Calls.{tableWith, cellsAfter, feedingLine, feeding, SoundBook, Sound}
 use Rattle.book_model.specs.Cells.{loanBand, loanLtv, noCells, withCell, cellsWith, CellsBounded}
 use Rattle.book_model.specs.LineKinds.{a-loan, another, contentKind, kindOf, kindCounts}
 use Rattle.book_model.specs.Ranges.{LoanRanges, Ranged}
 use Rattle.book_model.specs.Share.{share, loanShare}
 use Rattle.book_model.specs.Steps.{notOpened, answerWith}
-use Rattle.book_model.specs.Terms.{under, termsFor}
+use Rattle.book_model.specs.Terms.{under}
 use Rattle.book_model.proofs.BoundedShares.{loan-bounded, counted}
 use Rattle.book_model.proofs.Cells.{bounded-wider}
 use Rattle.book_model.proofs.Feeding.{room, book-room, asks, line-bounded, fed-refused, fed-sound, opening-sound}
 use Rattle.book_model.proofs.Near.{rates-chargeable}
+use Rattle.book_model.proofs.Openings.{sheet-passes, sheet-fails, header-fails}
 use Rattle.book_model.proofs.Ranged.{ranged, ranged-header}
 
 -- Opening with a sheet: l is what was read of the line, and the table of cells was cleared.
@@ -66,9 +67,9 @@ module _ (sheet line : List ℕ) {l : HeaderLine} (read : l ≡ headerOf line) {
       opened-as ((λ i. record { refusal = f i .refusal; state = stateAt (f i .book) (g i) (cleared i) }) ∙ ap (openingFor sheet) (sym e))
 
   pub not-opened : (n : ℕ) → l ≡ HeaderRefusal n → {r : Opened} {rates : List ℕ} → r ≡ notOpened n → rates ≡ builtInRates → Promised r rates
-  unfolding openingRefusal termsFor
   not-opened n e f g =
-      opened-as ((λ i. record { refusal = f i .refusal; state = stateAt (f i .book) (g i) (cleared i) }) ∙ ap (openingFor sheet) (sym e))
+      opened-as ((λ i. record { refusal = f i .refusal; state = stateAt (f i .book) (g i) (cleared i) })
+      ∙ sym (header-fails sheet n) ∙ ap (openingFor sheet) (sym e))
 
 -- Opening under a sheet with a header that was read, whether or not the sheet passes.
 module _ (sheet : List ℕ) (h : Header) {test : Bool} (tested : test ≡ sheetPasses sheet) where
@@ -77,12 +78,14 @@ module _ (sheet : List ℕ) (h : Header) {test : Bool} (tested : test ≡ sheetP
   OpensUnder r rates = (r ≡ openedOf (openingFor sheet (HeaderRead h))) × (rates ≡ openingFor sheet (HeaderRead h) .state .rates)
 
   pub passed : test ≡ true → {b : Book} {rates : List ℕ} → b ≡ emptyBook h → rates ≡ ratesOf sheet → OpensUnder (record { refusal = 0; book = b }) rates
-  unfolding openingRefusal termsFor
-  passed e f g = rw (← tested, e) ((λ i. record { refusal = 0; book = f i }), g)
+  passed e f g =
+      let k = sym (sheet-passes sheet h (sym tested ∙ e)) in
+      ((λ i. record { refusal = 0; book = f i }) ∙ ap openedOf k, g ∙ ap (λ (a : Answer). a .state .rates) k)
 
   pub turned-down : test ≡ false → {r : Opened} {rates : List ℕ} → r ≡ notOpened 10 → rates ≡ builtInRates → OpensUnder r rates
-  unfolding openingRefusal termsFor
-  turned-down e f g = rw (← tested, e) (f, g)
+  turned-down e f g =
+      let k = sym (sheet-fails sheet h (sym tested ∙ e)) in
+      (f ∙ ap openedOf k, g ∙ ap (λ (a : Answer). a .state .rates) k)
 
 -- Feeding a line: l is what was read of it.
 module _ (s : State) (line : List ℕ) {l : Line} (read : l ≡ lineOf line) (sound : Sound s) where

@@ -1,5 +1,5 @@
 -- Demand 1 over the definitions. Assumes nothing.
-use mathlib.Core.Path.{_≡_, refl}
+use mathlib.Core.Path.{_≡_, refl, _∙_, ap}
 use mathlib.Core.Bool.{Bool, true, false}
 use mathlib.Core.List.{List, [], _∷_, List·Memᴰ, List·Memᴰ·head, List·Memᴰ·tail}
 use mathlib.Core.Logic.{_⊎_, ⊎-elim}
@@ -9,9 +9,8 @@ use lib.Dec.{eqb, ltb, leb}
 use borrow.Author.Tests.{eqb-true}
 use lib.ListN.{length}
 use Rattle.exact.specs.Choice.{pick}
-use Rattle.sheet.specs.Sheet.{sheetPasses}
 use Rattle.line_forms.specs.declared.HeaderLine.{HeaderLine}
-use Rattle.line_forms.specs.declared.HeaderLine.the-variants.{Header as HeaderRead, Refusal as HeaderRefusal}
+use Rattle.line_forms.specs.declared.HeaderLine.the-variants.{Refusal as HeaderRefusal}
 use Rattle.line_forms.specs.declared.Line.{Line}
 use Rattle.line_forms.specs.declared.Line.the-variants.{Loan as LoanLine, Policy as PolicyLine, Derivative as DerivativeLine, Asset as AssetLine}
 use Rattle.line_forms.specs.declared.Line.the-variants.{Amount as AmountLine, Refusal}
@@ -24,13 +23,13 @@ use Rattle.book_report.proofs.Lengths.{report-most}
 use Rattle.cell_report.proofs.Laws.{cells-fit as cells-fit-64}
 use Rattle.book_model.specs.declared.Book.{Book}
 use Rattle.book_model.specs.Accepted.{mostOther, loanBeyond, refusalFor}
-use Rattle.book_model.specs.Calls.{State, stateAt, emptyState, openingRefusal, openingFor, refusalIn, bookAfter, cellsAfter, feedingLine, tooFew, closingWith, reportSize}
+use Rattle.book_model.specs.Calls.{State, Answer, stateAt, openingFor, refusalIn, bookAfter, cellsAfter, feedingLine, tooFew, closingWith, reportSize}
 use Rattle.book_model.specs.Calls.{reportOf, cellsSize, cellsTextOf, SoundBook, Sound}
 use Rattle.book_model.specs.Demand1.{refusedState, Demand1}
 use Rattle.book_model.specs.LineKinds.{contentKind}
-use Rattle.book_model.specs.Terms.{underSheet, refusedTerms, termsFor}
 use Rattle.book_model.proofs.Closings.{untouched}
 use Rattle.book_model.proofs.Feeding as feeding-laws
+use Rattle.book_model.proofs.Openings.{number, sheet-passes, sheet-fails, header-fails, Case, book-opens, sheet-refused, header-refused, caseOf}
 use Rattle.book_model.proofs.Ranged.{ranged, ranged-header}
 
 -- places in a list of numbers
@@ -40,16 +39,18 @@ first e = List·Memᴰ·head e
 later : {n x : ℕ} {xs : List ℕ} → List·Memᴰ n xs → List·Memᴰ n (x ∷ xs)
 later m = List·Memᴰ·tail m
 
-tested-10 : (passes : Bool) → List·Memᴰ {A = ℕ} (pick passes 0 10) (0 ∷ 1 ∷ 2 ∷ 7 ∷ 3 ∷ 4 ∷ 10 ∷ [])
-tested-10 true = first refl
-tested-10 false = later (later (later (later (later (later (first refl))))))
-
 opening-number : (sheet : List ℕ) (l : HeaderLine) → ((n : ℕ) → l ≡ HeaderRefusal n → (n ≡ 1) ⊎ (n ≡ 2) ⊎ (n ≡ 7) ⊎ (n ≡ 3) ⊎ (n ≡ 4)) →
     List·Memᴰ (openingFor sheet l .refusal) (0 ∷ 1 ∷ 2 ∷ 7 ∷ 3 ∷ 4 ∷ 10 ∷ [])
-unfolding openingRefusal
-opening-number sheet (HeaderRead h) k = tested-10 (sheetPasses sheet)
-opening-number sheet (HeaderRefusal n) k =
-    later (⊎-elim first (λ a. later (⊎-elim first (λ b. later (⊎-elim first (λ c. later (⊎-elim first (λ d. later (first d)) c)) b)) a)) (k n refl))
+opening-number sheet l k = go (caseOf sheet l) k
+  where
+    go : {l : HeaderLine} → Case sheet l → ((n : ℕ) → l ≡ HeaderRefusal n → (n ≡ 1) ⊎ (n ≡ 2) ⊎ (n ≡ 7) ⊎ (n ≡ 3) ⊎ (n ≡ 4)) →
+        List·Memᴰ (openingFor sheet l .refusal) (0 ∷ 1 ∷ 2 ∷ 7 ∷ 3 ∷ 4 ∷ 10 ∷ [])
+    go (book-opens h e) k = first (number (sheet-passes sheet h e))
+    go (sheet-refused h e) k = later (later (later (later (later (later (first (number (sheet-fails sheet h e))))))))
+    go (header-refused n) k =
+        let e = number (header-fails sheet n) in
+        later (⊎-elim (λ a. first (e ∙ a)) (λ a. later (⊎-elim (λ b. first (e ∙ b)) (λ b. later (⊎-elim (λ c. first (e ∙ c)) (λ c. later
+        (⊎-elim (λ d. first (e ∙ d)) (λ d. later (first (e ∙ d))) c)) b)) a)) (k n refl))
 
 -- the numbers of feeding, 5 and 8 the last
 abbrev Fed : ℕ → Type 0
@@ -78,13 +79,12 @@ closing-number false true = later (later (first refl))
 closing-number false false = first refl
 
 refused-opening : (sheet : List ℕ) (l : HeaderLine) → (openingFor sheet l .refusal ≡ 0 → ⊥) → openingFor sheet l .state ≡ refusedState
-unfolding openingRefusal termsFor
-refused-opening sheet (HeaderRead h) n = go (sheetPasses sheet) n
+refused-opening sheet l n = go (caseOf sheet l) n
   where
-    go : (t : Bool) → (_≡_ {A = ℕ} (pick t 0 10) 0 → ⊥) → emptyState (pick t (underSheet h sheet) refusedTerms) ≡ refusedState
-    go true m = absurd (m refl)
-    go false m = refl
-refused-opening sheet (HeaderRefusal k) n = refl
+    go : {l : HeaderLine} → Case sheet l → (openingFor sheet l .refusal ≡ 0 → ⊥) → openingFor sheet l .state ≡ refusedState
+    go (book-opens h e) n = absurd (n (number (sheet-passes sheet h e)))
+    go (sheet-refused h e) n = ap (λ (x : Answer). x .state) (sheet-fails sheet h e)
+    go (header-refused k) n = ap (λ (x : Answer). x .state) (header-fails sheet k)
 
 refused-feeding : (s : State) (l : Line) → (feedingLine s l .refusal ≡ 0 → ⊥) → feedingLine s l .state ≡ s
 unfolding feedingLine bookAfter cellsAfter

@@ -28,15 +28,16 @@ use Rattle.line_forms.proofs.LineLaws.{line-reading, line-accepted, line-number
 use Rattle.line_forms.proofs.HeaderLaws.{header-reading, header-accepted, header-numbers}
 use Rattle.figures.specs.declared.Counts.{Counts}
 use Rattle.book_model.specs.Accepted.{Accepted, countsIn, mostOther, loanBeyond, refusalFor, refusalOf}
-use Rattle.book_model.specs.Calls.{Answer, emptyState, openingRefusal, openingFor, opening, closingRefusal, reportSize, cellsSize}
+use Rattle.book_model.specs.Calls.{Answer, openingFor, opening, closingRefusal, reportSize, cellsSize}
 use Rattle.book_model.specs.Demand2.{OtherForm, Counted, Opens, OpeningAnswer, LoanFits, LoanBeyond, Fits, FeedingAnswer, ClosingAnswer, Demand2}
 use Rattle.book_model.specs.History.{opened, allFed, termsOf, acceptedOf}
 use Rattle.book_model.specs.LineKinds.{LineKind, a-loan, another, refused, contentKind, kindOf, kindCounts, unscoredCount}
-use Rattle.book_model.specs.Terms.{Terms, underSheet, refusedTerms, termsFor}
+use Rattle.book_model.specs.Terms.{Terms}
 use Rattle.book_model.proofs.BoundedShares.{unscored-most}
 use Rattle.book_model.proofs.Closings.{closes-6, closes-9, closes-0}
 use Rattle.book_model.proofs.Demand3.{demand3}
 use Rattle.book_model.proofs.LoanTable.{loan-table}
+use Rattle.book_model.proofs.Openings.{number, openedUnder, sheet-passes, sheet-fails, header-fails, Case, book-opens, sheet-refused, header-refused, caseOf}
 
 -- Lines
 
@@ -315,48 +316,35 @@ closing-answer least t a size = record {
 -- Opening
 
 -- A header's number other than 0 and 10 is opening's, whatever the sheet.
-same-number : (sheet : List ℕ) (l : HeaderLine) (n : ℕ) → (n ≡ 0 → ⊥) → (n ≡ 10 → ⊥) → (openingRefusal sheet l ≡ n) ↔ (headerRefusal l ≡ n)
-unfolding openingRefusal
-same-number sheet (HeaderRead h) n z x = (λ e. absurd (go (sheetPasses sheet) e), λ e. absurd (z (sym e)))
+same-number : (sheet : List ℕ) (l : HeaderLine) (n : ℕ) → (n ≡ 0 → ⊥) → (n ≡ 10 → ⊥) → (openingFor sheet l .refusal ≡ n) ↔ (headerRefusal l ≡ n)
+same-number sheet l n z x = go (caseOf sheet l)
   where
-    go : (t : Bool) → pick t 0 10 ≡ n → ⊥
-    go true e = z (sym e)
-    go false e = x (sym e)
-same-number sheet (HeaderRefusal k) n z x = (λ e. e, λ e. e)
+    go : {l : HeaderLine} → Case sheet l → (openingFor sheet l .refusal ≡ n) ↔ (headerRefusal l ≡ n)
+    go (book-opens h e) = (λ k. absurd (z (sym k ∙ number (sheet-passes sheet h e))), λ k. absurd (z (sym k)))
+    go (sheet-refused h e) = (λ k. absurd (x (sym k ∙ number (sheet-fails sheet h e))), λ k. absurd (z (sym k)))
+    go (header-refused m) = (λ k. sym (number (header-fails sheet m)) ∙ k, λ k. number (header-fails sheet m) ∙ k)
 
 -- a book opened is that of the header read, under a sheet that passes
-opened-header : (sheet : List ℕ) (l : HeaderLine) (h : Header) → ((n : ℕ) → l ≡ HeaderRefusal n → n ≡ 0 → ⊥) →
-    openingFor sheet l ≡ record { refusal = 0; state = emptyState (underSheet h sheet) } → (l ≡ HeaderRead h) × (sheetPasses sheet ≡ true)
-unfolding openingRefusal termsFor
-opened-header sheet (HeaderRead x) h b e =
-    go (sheetPasses sheet) (ap (λ (o : Answer). o .refusal) e) (ap (λ (o : Answer). o .state .book .header) e)
+opened-header : (sheet : List ℕ) (l : HeaderLine) (h : Header) → ((n : ℕ) → l ≡ HeaderRefusal n → n ≡ 0 → ⊥) → openingFor sheet l ≡ openedUnder sheet h →
+    (l ≡ HeaderRead h) × (sheetPasses sheet ≡ true)
+opened-header sheet l h b e = go (caseOf sheet l) b e
   where
-    go : (t : Bool) → _≡_ {A = ℕ} (pick t 0 10) 0 → pick t (underSheet x sheet) refusedTerms .header ≡ h → (HeaderRead x ≡ HeaderRead h) × (t ≡ true)
-    go true f g = (ap HeaderRead g, refl)
-    go false f g = absurd (omega (arith, f))
-opened-header sheet (HeaderRefusal n) h b e = absurd (b n refl (ap (λ (o : Answer). o .refusal) e))
-
-opened-as : (sheet s : List ℕ) (h : Header) → headerOf s ≡ HeaderRead h → sheetPasses sheet ≡ true →
-    opening sheet s ≡ record { refusal = 0; state = emptyState (underSheet h sheet) }
-unfolding openingRefusal termsFor
-opened-as sheet s h e p =
-    ap (openingFor sheet) e ∙ (λ i. record { refusal = pick (p i) 0 10; state = emptyState (pick (p i) (underSheet h sheet) refusedTerms) })
-
--- whether a header was read
-abbrev isRead : HeaderLine → Bool
-isRead (HeaderRead h) = true
-isRead (HeaderRefusal n) = false
+    go : {l : HeaderLine} → Case sheet l → ((n : ℕ) → l ≡ HeaderRefusal n → n ≡ 0 → ⊥) → openingFor sheet l ≡ openedUnder sheet h →
+        (l ≡ HeaderRead h) × (sheetPasses sheet ≡ true)
+    go (book-opens x p) b e = (ap (λ (a : Answer). HeaderRead (a .state .book .header)) (sym (sheet-passes sheet x p) ∙ e), p)
+    go (sheet-refused x p) b e = absurd (omega (arith, number (sym (sheet-fails sheet x p) ∙ e)))
+    go (header-refused n) b e = absurd (b n refl (number (sym (header-fails sheet n) ∙ e)))
 
 -- 10 is the sheet's alone
-turned-down : (sheet : List ℕ) (l : HeaderLine) → ((n : ℕ) → l ≡ HeaderRefusal n → n ≡ 10 → ⊥) →
-    (openingRefusal sheet l ≡ 10) ↔ (((h : Header) × (l ≡ HeaderRead h)) × (sheetPasses sheet ≡ false))
-unfolding openingRefusal
-turned-down sheet (HeaderRead h) b = (λ e. ((h, refl), go (sheetPasses sheet) e), λ (k, e). rw e refl)
+turned-down : (sheet : List ℕ) (l : HeaderLine) → ((n : ℕ) → l ≡ HeaderRefusal n → n ≡ 10 → ⊥) → openingFor sheet l .refusal ≡ 10 →
+    ((h : Header) × (l ≡ HeaderRead h)) × (sheetPasses sheet ≡ false)
+turned-down sheet l b e = go (caseOf sheet l) b e
   where
-    go : (t : Bool) → _≡_ {A = ℕ} (pick t 0 10) 10 → t ≡ false
-    go true e = absurd (omega (arith, e))
-    go false e = refl
-turned-down sheet (HeaderRefusal n) b = (λ e. absurd (b n refl e), λ ((h, k), e). absurd (true≢false (sym (ap isRead k))))
+    go : {l : HeaderLine} → Case sheet l → ((n : ℕ) → l ≡ HeaderRefusal n → n ≡ 10 → ⊥) → openingFor sheet l .refusal ≡ 10 →
+        ((h : Header) × (l ≡ HeaderRead h)) × (sheetPasses sheet ≡ false)
+    go (book-opens h p) b e = absurd (omega (arith, sym (number (sheet-passes sheet h p)) ∙ e))
+    go (sheet-refused h p) b e = ((h, refl), p)
+    go (header-refused n) b e = absurd (b n refl (sym (number (header-fails sheet n)) ∙ e))
 
 -- a sheet fails exactly where it does not keep the rules
 breaks : (sheet : List ℕ) → (sheetPasses sheet ≡ false) ↔ (SheetRules sheet → ⊥)
@@ -390,12 +378,11 @@ openings sheet s =
     let n7 = same-number sheet (headerOf s) 7 (λ e. omega (arith, e)) (λ e. omega (arith, e)) in
     let n3 = same-number sheet (headerOf s) 3 (λ e. omega (arith, e)) (λ e. omega (arith, e)) in
     let n4 = same-number sheet (headerOf s) 4 (λ e. omega (arith, e)) (λ e. omega (arith, e)) in
-    let n10 = turned-down sheet (headerOf s) (λ m f. header-number m (header-numbers s m f) .1) in
     record {
       opens = λ h. (
         λ e. let (k, p) = opened-header sheet (headerOf s) h (λ m f. header-number m (header-numbers s m f) .0) e in
             (opens-read s h .0 k, rules sheet p),
-        λ (k, p). opened-as sheet s h (opens-read s h .1 k) (passes sheet p),
+        λ (k, p). ap (openingFor sheet) (opens-read s h .1 k) ∙ sheet-passes sheet h (passes sheet p),
       );
       number-1 = (λ e. r .refused1 .0 (n1 .0 e), λ e. n1 .1 (r .refused1 .1 e));
       number-2 = (λ e. r .refused2 .0 (n2 .0 e), λ e. n2 .1 (r .refused2 .1 e));
@@ -412,8 +399,9 @@ openings sheet s =
         λ (h, k, u). n4 .1 (r .refused4 .1 (h, k .shows .writable, k .in-range, u, k .shows .bytes)),
       );
       number-10 = (
-        λ e. let ((h, k), f) = n10 .0 e in ((h, opens-read s h .0 k), breaks sheet .0 f),
-        λ ((h, k), f). n10 .1 ((h, opens-read s h .1 k), breaks sheet .1 f),
+        λ e. let ((h, k), f) = turned-down sheet (headerOf s) (λ m f. header-number m (header-numbers s m f) .1) e in
+            ((h, opens-read s h .0 k), breaks sheet .0 f),
+        λ ((h, k), f). number (ap (openingFor sheet) (opens-read s h .1 k) ∙ sheet-fails sheet h (breaks sheet .1 f)),
       );
     }
 

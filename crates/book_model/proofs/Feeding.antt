@@ -11,13 +11,11 @@ use Rattle.loan_charge.specs.CreditFactor.{RatesInRange}
 use Rattle.loan_charge.specs.declared.Score.{Score}
 use Rattle.loan_charge.specs.declared.Score.the-variants.{Scored, Unscored}
 use Rattle.loan_charge.proofs.CreditLaws.{built-in}
-use Rattle.sheet.specs.Sheet.{sheetPasses}
 use Rattle.sheet.proofs.Loading.{in-range}
 use Rattle.sheet.proofs.Rules.{rules}
 use Rattle.line_forms.specs.declared.Content.{Content}
 use Rattle.line_forms.specs.declared.Header.{Header}
 use Rattle.line_forms.specs.declared.HeaderLine.{HeaderLine}
-use Rattle.line_forms.specs.declared.HeaderLine.the-variants.{Header as HeaderRead, Refusal as HeaderRefusal}
 use Rattle.line_forms.specs.declared.Line.{Line}
 use Rattle.line_forms.specs.declared.Loan.{Loan}
 use Rattle.line_forms.specs.declared.Line.the-variants.{Refusal}
@@ -34,10 +32,11 @@ use Rattle.book_model.specs.Cells.{loanBand, loanLtv, loanCell, withCell
 use Rattle.book_model.specs.LineKinds.{LineKind, a-loan, another, refused, contentKind, kindOf, kindCounts, unscoredCount}
 use Rattle.book_model.specs.Ranges.{LoanRanges, CellRanges, Ranged, HeaderRanges, RangedHeader}
 use Rattle.book_model.specs.Share.{loanShare, share}
-use Rattle.book_model.specs.Terms.{Terms, under, underSheet, refusedTerms, termsFor}
+use Rattle.book_model.specs.Terms.{Terms, under, underSheet, refusedTerms}
 use Rattle.cell_report.specs.CellReport.{placeOf}
 use Rattle.book_model.proofs.BoundedShares.{loan-bounded, share-bounded, counted}
 use Rattle.book_model.proofs.Cells.{Held, a-loan as held-loan, no-loan, held, bounded-wider, cell-more, none-bounded as no-cells-bounded}
+use Rattle.book_model.proofs.Openings.{sheet-passes, sheet-fails, header-fails, Case, book-opens, sheet-refused, header-refused, caseOf}
 use Rattle.book_model.proofs.Near.{ChargeableTerms, rates-chargeable}
 
 -- Opening
@@ -62,13 +61,13 @@ pub refused-sound : Sound (emptyState refusedTerms)
 refused-sound = empty-state refusedTerms (record { loans = omega arith; unscored = omega arith; held = omega arith }) built-in
 
 pub opening-sound : (sheet : List ℕ) (l : HeaderLine) → RangedHeader l → Sound (openingFor sheet l .state)
-unfolding termsFor
-opening-sound sheet (HeaderRead h) r = go (sheetPasses sheet) refl
+opening-sound sheet l r = go (caseOf sheet l) r
   where
-    go : (t : Bool) → sheetPasses sheet ≡ t → Sound (emptyState (pick t (underSheet h sheet) refusedTerms))
-    go true e = empty-state (underSheet h sheet) r (in-range sheet (rules sheet e))
-    go false e = refused-sound
-opening-sound sheet (HeaderRefusal n) r = refused-sound
+    go : {l : HeaderLine} → Case sheet l → RangedHeader l → Sound (openingFor sheet l .state)
+    go (book-opens h e) r =
+        subst (λ (a : Answer). Sound (a .state)) (sym (sheet-passes sheet h e)) (empty-state (underSheet h sheet) r (in-range sheet (rules sheet e)))
+    go (sheet-refused h e) r = subst (λ (a : Answer). Sound (a .state)) (sym (sheet-fails sheet h e)) refused-sound
+    go (header-refused n) r = subst (λ (a : Answer). Sound (a .state)) (sym (header-fails sheet n)) refused-sound
 
 -- Feeding
 

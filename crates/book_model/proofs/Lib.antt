@@ -11,6 +11,7 @@ pub mod ExactSums
 pub mod Examples
 pub mod Feeding
 pub mod LoanTable
+pub mod Openings
 pub mod OwnFactors
 pub mod Near
 pub mod Ranged

@@ -1,5 +1,5 @@
 -- What is printed under the numbers that were handed out of a file. Assumes nothing.
-use mathlib.Core.Path.{_≡_, refl, _∙_, ap}
+use mathlib.Core.Path.{_≡_, refl, sym, _∙_, ap}
 use mathlib.Core.Bool.{Bool, false}
 use mathlib.Core.List.{List, [], _∷_}
 use Prim.Native.Nat.{ℕ}
@@ -16,16 +16,15 @@ use Rattle.line_forms.specs.declared.HeaderLine.the-variants.{Header as HeaderR
 use Rattle.line_forms.specs.Readings.{headerOf}
 use Rattle.sheet.specs.Sheet.{sheetPasses}
 use Rattle.sheet_file.specs.NumberList.{most}
-use Rattle.book_model.specs.Calls.{Answer, openingRefusal, openingFor}
-use Rattle.book_model.specs.Terms.{termsFor}
+use Rattle.book_model.specs.Calls.{Answer, openingFor}
+use Rattle.book_model.proofs.Openings.{sheet-fails, header-fails}
 use Rattle.driver.specs.Printed.{linesOf, printedFeeding, printedLines, printed}
 use Rattle.capital.specs.Reads.{SheetFile}
 
 -- two sheets that fail open, and print, alike
 opens-alike : (s t : List ℕ) → sheetPasses s ≡ false → sheetPasses t ≡ false → (l : HeaderLine) → openingFor s l ≡ openingFor t l
-unfolding openingRefusal termsFor
-opens-alike s t e f (HeaderRead h) = rw (e, f) refl
-opens-alike s t e f (HeaderRefusal n) = refl
+opens-alike s t e f (HeaderRead h) = sheet-fails s h e ∙ sym (sheet-fails t h f)
+opens-alike s t e f (HeaderRefusal n) = header-fails s n ∙ sym (header-fails t n)
 
 prints-alike : (asked : Bool) (s t : List ℕ) → sheetPasses s ≡ false → sheetPasses t ≡ false → (lines : List (List ℕ)) →
     printedLines asked s lines ≡ printedLines asked t lines

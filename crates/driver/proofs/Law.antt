@@ -12,10 +12,10 @@ use borrow.Author.Tests.{eqb-true, eqb-false}
 use Rattle.exact.specs.Choice.{pick}
 use Rattle.report.specs.Line.{refusalLine}
 use Rattle.line_forms.specs.declared.Line.the-variants.{Refusal}
-use Rattle.line_forms.specs.declared.HeaderLine.the-variants.{Refusal as HeaderRefusal}
 use Rattle.book_model.specs.Accepted.{refusalFor}
-use Rattle.book_model.specs.Calls.{State, Answer, openingRefusal, openingFor, opening, feedingLine, feeding}
+use Rattle.book_model.specs.Calls.{State, Answer, openingFor, opening, feedingLine, feeding}
 use Rattle.book_model.specs.LineKinds.{contentKind}
+use Rattle.book_model.proofs.Openings.{number, header-fails}
 use Rattle.driver.specs.Program.{Settled}
 use Rattle.driver.specs.Reading.{Stage, Reading, atStart, fromStart, after, newline, withTail, withLine, withByte, withBytes}
 use Rattle.driver.proofs.LineLaws.{line-refused, line-opens, line-fed}
@@ -131,12 +131,12 @@ refused-stays asked (byte ∷ bytes) s h =
 
 -- A line over 240 bytes is refused whatever follows, or a line before it was.
 long-refused : (p : Stage) (line : List ℕ) → 240 < length line → withLine p line .refusal ≡ 0 → ⊥
-unfolding withLine openingRefusal feedingLine refusalFor contentKind
+unfolding withLine feedingLine refusalFor contentKind
 long-refused p line h = go (eqb (p .refusal) 0) refl (eqb (p .number) 1)
   where
     go : (a : Bool) → eqb (p .refusal) 0 ≡ a → (b : Bool) →
         pick {A = Stage} a (after (pick b (opening (p .sheet) line) (feeding (p .state) line)) (p .number) (p .sheet)) p .refusal ≡ 0 → ⊥
-    go true f true e = let k : openingFor (p .sheet) (HeaderRefusal 1) .refusal ≡ 0 = rw (long-header line h) at e in omega (arith, k)
+    go true f true e = omega (arith, sym (number (ap (openingFor (p .sheet)) (long-header line h) ∙ header-fails (p .sheet) 1)) ∙ e)
     go true f false e = let k : feedingLine (p .state) (Refusal 1) .refusal ≡ 0 = rw (long-line line h) at e in omega (arith, k)
     go false f b e = eqb-false (p .refusal) 0 f e
 
