@@ -218,7 +218,7 @@ def results(run, seed, count):
 
 def further(program, seed, count):
     failed = 0
-    for result in results(book_runs.runner(program), seed, count):
+    for result in results(book_runs.Runner(program), seed, count):
         if result[0] is not None:
             failed += 1
             print(book_runs.failure(*result))
