@@ -5,6 +5,7 @@ import unittest
 from fractions import Fraction as F
 
 import book_runs
+import sheets
 from reference import book, cells, exponential, forms, loan, sheet
 
 
@@ -156,6 +157,20 @@ class Sheets(unittest.TestCase):
         self.assertEqual(sheet.broken(changed([7] * 66, {20: 0, 30: 301})), ("range", 20))
         self.assertEqual(sheet.broken(changed([7] * 66, {20: 8, 30: 0})), ("band", 20))
         self.assertEqual(sheet.broken(changed([7] * 66, {20: 6, 30: 0})), ("age", 20))
+
+    def test_sheets_of_the_tests(self):
+        """Each of those that break the order between two neighbours has this fault alone; random ones keep the rules, or do not."""
+        for (band, age), numbers in sheets.RISING.items():
+            self.assertEqual(sheet.broken(numbers), ("band", 6 * band + 6 + age))
+            self.assertIsNone(sheet.broken(sheets.changed(numbers, 6 * band + 6 + age, 100)))
+        for (band, age), numbers in sheets.FALLING.items():
+            self.assertEqual(sheet.broken(numbers), ("age", 6 * band + age + 1))
+            self.assertIsNone(sheet.broken(sheets.changed(numbers, 6 * band + age, 150)))
+        self.assertEqual((len(sheets.RISING), len(sheets.FALLING)), (60, 55))
+        source = random.Random(66)
+        for _ in range(200):
+            self.assertIsNone(sheet.broken(sheets.kept(source)))
+            self.assertIsNotNone(sheet.broken(sheets.not_kept(source)))
 
     def test_credit_factor(self):
         numbers = list(range(101, 167))  # the number tells its place; the rules of loading are not asked here
