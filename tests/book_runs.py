@@ -521,22 +521,24 @@ LISTS = {
 }
 
 
+def _sheet_file_problem(done, count):
+    """What is wrong with a run under a file of so many numbers, or under one that is no sheet at all (None); or None."""
+    if count is None:
+        return None if done.stdout == b"" and done.stderr.endswith(b"\n") else f"{done.stderr!r} on standard error"
+    return problem(book.run(HEADER, (100,) * count), done.stdout) or (f"{done.stderr!r} on standard error" if done.stderr else None)
+
+
 def sheet_files(program):
     """What came out of files that are no sheet: a sentence, and nothing printed; and of lists of other lengths and layouts."""
     with tempfile.TemporaryDirectory() as folder:
         path = Path(folder) / "a sheet"
-        for text in (None, *NO_LISTS, *LISTS):
+        written = [(path, text, LISTS.get(text)) for text in (*NO_LISTS, *LISTS)]
+        for file, text, count in [(path, None, None), (folder, None, None), ("/proc/self/mem", None, None), *written]:
             if text is not None:
                 path.write_bytes(text)
-            done = subprocess.run([program, SHEET, path], input=HEADER, capture_output=True, check=False)
-            if text in LISTS:
-                found = book.run(HEADER, (100,) * LISTS[text])
-                wrong = problem(found, done.stdout) or (f"{done.stderr!r} on standard error" if done.stderr else None)
-            else:
-                wrong = None if done.stdout == b"" and done.stderr.endswith(b"\n") else f"{done.stderr!r} on standard error"
-            yield wrong and f"with the sheet {text and text[:40]!r}: {wrong}", HEADER, done.stdout
-        done = subprocess.run([program, SHEET, folder], input=HEADER, capture_output=True, check=False)
-        yield None if done.stdout == b"" and done.stderr.endswith(b"\n") else "a folder for a sheet", HEADER, done.stdout
+            done = subprocess.run([program, SHEET, file], input=HEADER, capture_output=True, check=False)
+            wrong = _sheet_file_problem(done, count)
+            yield wrong and f"with the sheet {file} {text and text[:40]!r}: {wrong}", HEADER, done.stdout
 
 
 def single_results(program):
