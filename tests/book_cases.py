@@ -87,19 +87,22 @@ def answers(calls, texts=CERTAIN):
             yield _closing(open_book, kind, int(rest), texts[kind])
 
 
-def _is_certain(line, header, sheet=None):
-    """Whether a loan's two numbers are certain under a header, and a sheet."""
-    opened = book.open_book(header, sheet)
-    opened.feed(line)
-    bounds = opened.sum_bounds(book_runs.LOAN_DISTANCE)
-    return bounds[::2] == bounds[1::2]
+def _is_certain(line, header, *lent):
+    """Whether a loan's two numbers are certain under a header: without a sheet, and under each that is lent."""
+    for sheet in (None, *lent):
+        opened = book.open_book(header, sheet)
+        opened.feed(line)
+        bounds = opened.sum_bounds(book_runs.LOAN_DISTANCE)
+        if bounds[::2] != bounds[1::2]:
+            return False
+    return True
 
 
-def _certain_loan(source, scored, header):
+def _certain_loan(source, scored, header, *lent):
     """A loan whose two numbers are certain under a header."""
     while True:
         line = book_runs.loan_line(source, scored)
-        if _is_certain(line, header):
+        if _is_certain(line, header, *lent):
             return line
 
 
@@ -157,7 +160,7 @@ def _stored_calls():
     header = b"(book (loans 3) (unscored 1) (scores aged) (held 1000))"
     loans = [_certain_loan(source, scored, header) for scored in (True, True, False)]
     # Before any opening, and after each refusal of one: a book of an all-zero header.
-    calls = _closings()
+    calls = _closings() + [b"s" + header]
     refused = _refused_headers(header)
     for line in refused:
         calls += [b"o" + header, b"f" + loans[0], b"o" + line, b"f" + loans[0], b"f(claims 1001)", b"c511", b"c512"]
@@ -204,16 +207,19 @@ def _rule_calls(header):
 
 def _refused_sheet_calls(source, header):
     """A refused sheet or header leaves a book of an all-zero header, whatever stood there; the header's refusals come first."""
-    line = b"f" + _certain_loan(source, True, header)
     calls = []
     for sheet in (sheets.DISTINCT, sheets.OUTSIDE[0], sheets.LENGTHS[0]):
         calls.append(_lending(sheet))
         calls += [b"s" + refused for refused in _refused_headers(header)]
+    one = b"(book (loans 1) (unscored 0) (scores aged) (held 1000))"
+    line = b"f" + _certain_loan(source, True, one, sheets.DISTINCT)
+    own = [*_opening(one, sheets.DISTINCT), line]
     for sheet in (sheets.LENGTHS[2], sheets.OUTSIDE[1], sheets.RISING[0, 0]):
-        calls += [*_opening(header, sheets.DISTINCT), line, *_opening(header, sheet), line, b"f(claims 1001)", b"c511", b"c512", b"t8192"]
-    # A header that is refused under a sheet that is taken; and a book without a sheet after both.
-    calls += [*_opening(header, sheets.DISTINCT), b"s(claims 7)", line, b"c512"]
-    return calls + [*_opening(header, sheets.LENGTHS[0]), b"o" + header, line, b"c512"]
+        calls += [*own, *_opening(one, sheet), line, b"f(claims 1001)", b"c511", b"c512", b"t8192"]
+    # A header that is refused under a sheet that is taken. A book without a sheet, after one under a sheet and after each refusal.
+    calls += [*own, b"s(claims 7)", line, b"c512", *_opening(one), line, b"c512"]
+    calls += [*own, b"c512", *_opening(one), line, b"c512"]
+    return calls + [*own, *_opening(one, sheets.LENGTHS[0]), *_opening(one), line, b"c512"]
 
 
 def _scored(scores, sheet):
@@ -223,7 +229,7 @@ def _scored(scores, sheet):
     loans = []
     for lowest, age in zip((300, *range(600, 781, 20)), ages, strict=True):
         lines = (book_runs.loan(20_000_000 + i, 22_000_000, b"%d %d" % (lowest + 19, age)) for i in range(1000))
-        loans.append(next(line for line in lines if all(_is_certain(line, header, lent) for lent in (None, sheet))))
+        loans.append(next(line for line in lines if _is_certain(line, header, sheet)))
     return header, loans
 
 
@@ -232,7 +238,7 @@ def _charged_calls(source, header):
     calls = []
     for scores in (b"fresh", b"aged"):
         scored, loans = _scored(scores, sheets.DISTINCT)
-        for sheet in (sheets.DISTINCT, sheets.BUILT_IN, None):
+        for sheet in (sheets.BUILT_IN, sheets.DISTINCT, None):
             calls += _opening(scored, sheet) + [b"f" + line for line in loans] + [b"c512"]
         calls += _opening(scored, sheets.DISTINCT) + [b"f" + line for line in loans] + [b"t8192"]
     # Without a score nothing changes. Another sheet lent to nobody changes nothing in a book that is open.
