@@ -3,11 +3,13 @@
 
 A call is one line: `o` and a header line, `f` and a line, `c` or `t` and the size of the buffer that is lent for the report or for
 the table. Its answer is its letter and the refusal, 0 for none; a closing tells the length too, and then all bytes of the buffer
-of which the lent one is the start, 640 or 8,320, `.` where nothing was written.
+of which the lent one is the start, 640 or 8,320, `.` where nothing was written. `n` and numbers set the sheet of credit factors that
+`s` and a header line lends; its answer is how many were read, 67 for more, or `bad` for what is no list of numbers, and then the sheet is empty,
+as it is at first.
 
 The stored lists hold only loans whose two numbers the reference leaves no choice, so that it knows every byte of the answers.
-Further lists (--run) hold any loans: the same lines in two orders, with refused lines between. Their reports and tables are
-compared with the reference, and byte for byte with each other.
+Further lists (--run) hold any loans: the same lines in two orders, with refused lines between, half of them under a sheet. Their
+reports and tables are compared with the reference, and byte for byte with each other.
 """
 import copy
 import random
@@ -15,8 +17,10 @@ import re
 
 import book_runs
 import line_cases
+import sheets
 import stored
 from reference import book, cells
+from reference.sheet import LENGTH
 
 # Of each closing the bytes that it asks for, the buffer of which a part is lent, and the sizes that are tried.
 LEAST = {b"c": book.REPORT_BUFFER, b"t": cells.BUFFER}
@@ -53,35 +57,52 @@ def _closing(found, kind, size, text):
     return b"%s %d %d\n%s\n" % (kind, refusal, len(written), written.ljust(BUFFERS[kind], b"."))
 
 
+NUMBER = rb"(?:0|[1-9][0-9]{0,13})"
+
+
+def _sheet_read(text):
+    """The numbers that are read of a call's text, one more than a sheet has at most; or None where it is no list of numbers."""
+    if not re.fullmatch(rb"(?:%s(?: %s)*)?" % (NUMBER, NUMBER), text):
+        return None
+    return [int(number) for number in text.split()][: LENGTH + 1]
+
+
 def answers(calls, texts=CERTAIN):
     """What each call answers; `texts` gives the report and the table of a book that is closed."""
-    open_book = no_book()
+    open_book, sheet = no_book(), []
     for call in calls:
         kind, rest = call[:1], call[1:]
-        if kind == b"o":
-            opened = book.open_book(rest)
+        if kind == b"n":
+            read = _sheet_read(rest)
+            sheet = read or []
+            yield b"n bad\n" if read is None else b"n %d\n" % len(read)
+        elif kind in (b"o", b"s"):
+            opened = book.open_book(rest, sheet if kind == b"s" else None)
             refused = isinstance(opened, int)
             open_book = no_book() if refused else opened
-            yield b"o %d\n" % (opened if refused else 0)
+            yield b"%s %d\n" % (kind, opened if refused else 0)
         elif kind == b"f":
             yield b"f %d\n" % open_book.feed(rest)
         else:
             yield _closing(open_book, kind, int(rest), texts[kind])
 
 
-def _is_certain(line, header):
-    """Whether a loan's two numbers are certain under a header."""
-    opened = book.open_book(header)
-    opened.feed(line)
-    bounds = opened.sum_bounds(book_runs.LOAN_DISTANCE)
-    return bounds[::2] == bounds[1::2]
+def _is_certain(line, header, *lent):
+    """Whether a loan's two numbers are certain under a header: without a sheet, and under each that is lent."""
+    for sheet in (None, *lent):
+        opened = book.open_book(header, sheet)
+        opened.feed(line)
+        bounds = opened.sum_bounds(book_runs.LOAN_DISTANCE)
+        if bounds[::2] != bounds[1::2]:
+            return False
+    return True
 
 
-def _certain_loan(source, scored, header):
+def _certain_loan(source, scored, header, *lent):
     """A loan whose two numbers are certain under a header."""
     while True:
         line = book_runs.loan_line(source, scored)
-        if _is_certain(line, header):
+        if _is_certain(line, header, *lent):
             return line
 
 
@@ -108,12 +129,21 @@ def _refused_lines(source, open_book):
             yield line
 
 
-def _feedings(source, header, lines):
+def _opening(header, sheet=None):
+    """The calls that open a book, under a sheet where there is one."""
+    return [b"o" + header] if sheet is None else [_lending(sheet), b"s" + header]
+
+
+def _lending(sheet):
+    return b"n" + b" ".join(b"%d" % number for number in sheet)
+
+
+def _feedings(source, header, lines, sheet=None):
     """The calls of a book in a shuffled order of its lines, with refused lines between."""
-    open_book = book.open_book(header)
+    open_book = book.open_book(header, sheet)
     lines = list(lines)
     source.shuffle(lines)
-    calls = [b"o" + header]
+    calls = _opening(header, sheet)
     for line in lines:
         calls += [b"f" + between for between in _refused_lines(source, open_book)]
         assert open_book.feed(line) == 0
@@ -130,8 +160,8 @@ def _stored_calls():
     header = b"(book (loans 3) (unscored 1) (scores aged) (held 1000))"
     loans = [_certain_loan(source, scored, header) for scored in (True, True, False)]
     # Before any opening, and after each refusal of one: a book of an all-zero header.
-    calls = _closings()
-    refused = (b"x" * 241, b"", b"(claims 7)", header.replace(b"3", b"1000001"), header.replace(b"3", b"0"))
+    calls = _closings() + [b"s" + header]
+    refused = _refused_headers(header)
     for line in refused:
         calls += [b"o" + header, b"f" + loans[0], b"o" + line, b"f" + loans[0], b"f(claims 1001)", b"c511", b"c512"]
     # Fewer loans than the header's, or fewer without a score: 6 before 9, whatever the buffer.
@@ -145,7 +175,81 @@ def _stored_calls():
     others = [line for line in book_runs.OTHER_KINDS.split(b"\n") if line]
     for _ in range(4):
         calls += _feedings(source, header, loans + others) + [b"c512"]
-    return calls + _table_calls(source, header, loans)
+    return calls + _table_calls(source, header, loans) + _sheet_calls(source)
+
+
+def _refused_headers(header):
+    """Header lines that are refused with 1, 2, 7, 3 and 4; the header counts 3 loans."""
+    return b"x" * 241, b"", b"(claims 7)", header.replace(b"3", b"1000001"), header.replace(b"3", b"0")
+
+
+def _sheet_calls(source):
+    """Calls under sheets of credit factors."""
+    header = b"(book (loans 3) (unscored 1) (scores aged) (held 1000))"
+    return _rule_calls(header) + _refused_sheet_calls(source, header) + _charged_calls(source, header)
+
+
+def _rule_calls(header):
+    """Openings under sheets: how many numbers, and each rule kept and broken at the first and at the last place where it can be."""
+    taken = (sheets.BUILT_IN, sheets.DISTINCT, sheets.EQUAL, (1,) * LENGTH, (300,) * LENGTH)
+    rising = [sheets.RISING[where] for where in ((0, 0), (0, 5), (9, 0), (9, 5))]
+    falling = [sheets.FALLING[where] for where in ((0, 0), (0, 4), (10, 0), (10, 4))]
+    # A number that breaks two rules, and one that falls from a band's last age to the next band's first, which is allowed.
+    both, allowed = sheets.changed(sheets.EQUAL, 33, 101), sheets.changed(sheets.EQUAL, 5, 101)
+    calls = []
+    for sheet in (*taken, *sheets.LENGTHS, (100,) * 68, *sheets.OUTSIDE, *rising, *falling, both, allowed):
+        calls += _opening(header, sheet)
+    # After what is no list of numbers the sheet that was lent before is no longer lent.
+    calls += [_lending(sheets.EQUAL), b"s" + header, b"nx", b"s" + header]
+    no_lists = (b" ", b"1  2", b" 1", b"1 x", b"01", b"1.25", b"-1", b"1\t2", b"1,2", b"123456789012345", b"100\r")
+    return calls + [b"n" + text for text in no_lists] + [b"s" + header]
+
+
+def _refused_sheet_calls(source, header):
+    """A refused sheet or header leaves a book of an all-zero header, whatever stood there; the header's refusals come first."""
+    calls = []
+    for sheet in (sheets.DISTINCT, sheets.OUTSIDE[0], sheets.LENGTHS[0]):
+        calls.append(_lending(sheet))
+        calls += [b"s" + refused for refused in _refused_headers(header)]
+    one = b"(book (loans 1) (unscored 0) (scores aged) (held 1000))"
+    line = b"f" + _certain_loan(source, True, one, sheets.DISTINCT)
+    own = [*_opening(one, sheets.DISTINCT), line]
+    for sheet in (sheets.LENGTHS[2], sheets.OUTSIDE[1], sheets.RISING[0, 0]):
+        calls += [*own, *_opening(one, sheet), line, b"f(claims 1001)", b"c511", b"c512", b"t8192"]
+    # A header that is refused under a sheet that is taken. A book without a sheet, after one under a sheet and after each refusal.
+    calls += [*own, b"s(claims 7)", line, b"c512", *_opening(one), line, b"c512"]
+    calls += [*own, b"c512", *_opening(one), line, b"c512"]
+    return calls + [*own, *_opening(one, sheets.LENGTHS[0]), *_opening(one), line, b"c512"]
+
+
+def _scored(scores, sheet):
+    """A header, and a loan of each band whose numbers are certain under the sheet and under none, at every age column."""
+    header = b"(book (loans 11) (unscored 0) (scores %s) (held 0))" % scores
+    ages = (0, 13, 25, 37, 49, 61, 12, 24, 36, 48, 60)
+    loans = []
+    for lowest, age in zip((300, *range(600, 781, 20)), ages, strict=True):
+        lines = (book_runs.loan(20_000_000 + i, 22_000_000, b"%d %d" % (lowest + 19, age)) for i in range(1000))
+        loans.append(next(line for line in lines if _is_certain(line, header, sheet)))
+    return header, loans
+
+
+def _charged_calls(source, header):
+    """Books under a sheet: in fresh and aged books, beside the same book without one, and under a copy of the built-in table."""
+    calls = []
+    for scores in (b"fresh", b"aged"):
+        scored, loans = _scored(scores, sheets.DISTINCT)
+        for sheet in (sheets.BUILT_IN, sheets.DISTINCT, None):
+            calls += _opening(scored, sheet) + [b"f" + line for line in loans] + [b"c512"]
+        calls += _opening(scored, sheets.DISTINCT) + [b"f" + line for line in loans] + [b"t8192"]
+    # Without a score nothing changes. Another sheet lent to nobody changes nothing in a book that is open.
+    unscored = b"f" + _certain_loan(source, False, header)
+    alone = header.replace(b"3", b"1")
+    calls += [*_opening(alone), unscored, b"c512", *_opening(alone, sheets.DISTINCT), unscored, b"c512"]
+    calls += [*_opening(scored, sheets.DISTINCT), _lending(sheets.EQUAL), *(b"f" + line for line in loans), _lending(()), b"c512", b"nx", b"c512"]
+    # The same lines in two orders under one sheet, with refused lines between.
+    for _ in range(2):
+        calls += _feedings(source, scored, loans, sheets.DISTINCT) + [b"c512"]
+    return calls
 
 
 def _table_calls(source, header, loans):
@@ -179,13 +283,14 @@ def stored_files():
 
 
 def _book_calls(source):
-    """A book, and calls that make it in two orders; they fit into one block."""
+    """A book, its sheet or None, and calls that make it in two orders; they fit into one block."""
     while True:
         lines = book_runs.whole_book(source)
+        sheet = sheets.kept(source) if source.randrange(2) else None
         closings = [b"%s%d" % (kind, size) for kind in SIZES for size in (LEAST[kind] - 1, source.choice(SIZES[kind][2:]))]
-        calls = [call for _ in range(2) for call in _feedings(source, lines[0], lines[1:]) + closings]
+        calls = [call for _ in range(2) for call in _feedings(source, lines[0], lines[1:], sheet) + closings]
         if len(_input(calls)) <= stored.BLOCK:
-            return lines, calls
+            return lines, sheet, calls
 
 
 def _text_written(printed, kind):
@@ -197,7 +302,7 @@ def _text_written(printed, kind):
 
 def _problem(run, source):
     """What is wrong with the answers of one book's calls in two orders, or None; the input and what was printed."""
-    lines, calls = _book_calls(source)
+    lines, sheet, calls = _book_calls(source)
     data = _input(calls)
     printed = run(data)
     report, table = (_text_written(printed, kind) for kind in SIZES)
@@ -206,7 +311,7 @@ def _problem(run, source):
     expected = b"".join(answers(calls, {b"c": lambda _: report, b"t": lambda _: table}))
     if printed != expected:
         return f"expected {expected!r}", data, printed
-    found = book.run(b"\n".join(lines))
+    found = book.run(b"\n".join(lines), sheet)
     return book_runs.problem(found, report) or book_runs.table_problem(found, report, table), data, printed
 
 
@@ -218,7 +323,7 @@ def results(run, seed, count):
 
 def further(program, seed, count):
     failed = 0
-    for result in results(book_runs.runner(program), seed, count):
+    for result in results(book_runs.Runner(program), seed, count):
         if result[0] is not None:
             failed += 1
             print(book_runs.failure(*result))

@@ -5,8 +5,10 @@ Refusals are compared exactly; the two sums of the loans' numbers lie in the ran
 line follows exactly from them; the required amount keeps to its two bounds. With the word `cells` the same bytes are printed, and
 after a report the table: counts and balances exactly, charges within what is allowed, counts and charges adding up to the report's
 loans and total. A book that is not refused is held to two more: its lines in another order print the same bytes, and its two
-sums, and the charge of each cell, are those of the numbers that each of its loans has alone, in a book of its own. Besides, the
-program is run with an input that goes on after a refusal, with a read and with a write that fails, and with other words.
+sums, and the charge of each cell, are those of the numbers that each of its loans has alone, in a book of its own. Some books are run
+under a sheet of credit factors, by the words `sheet FILE`, and held to the requirement with that sheet; all others print the same bytes
+under a copy of the built-in table. Besides, the program is run with an input that goes on after a refusal, with a read and with a
+write that fails, with files that are no sheet, and with other words.
 """
 import argparse
 import itertools
@@ -15,13 +17,16 @@ import re
 import socket
 import subprocess
 import sys
+import tempfile
 from fractions import Fraction
 from pathlib import Path
 
 import line_cases
+import sheets
 from reference import book, cells, forms
 
 CELLS = "cells"  # the word with which the program prints the table too
+SHEET = "sheet"  # the word before the file of a sheet of credit factors
 LOAN_DISTANCE = Fraction(105, 100)  # of a loan's numbers from the exact ones, in cents
 PER_LOAN, BESIDES = 3, 3  # demand 3: the required amount exceeds the exact one by less than this
 
@@ -121,6 +126,39 @@ def _cell_books():
     below = [loan(100_000, 140_000, score, months) for score in (b"590 7", b"655 7", b"none") for months in (1, 4)]
     yield _book_of(below)
     yield _book_of(below + [loan(100_000, 140_000, b"590 7"), loan(100_000, 140_000, b"700 7")])
+
+
+def _sheet_books():
+    """Books that are not refused, each as its lines and the sheet under which they are charged."""
+    ages = (0, 12, 13, 24, 25, 36, 37, 48, 49, 60, 61, 600)
+    every = [loan(10_000_000 + score, 13_000_000, b"%d %d" % (score, age)) for score in _band_ends()[::2] for age in ages]
+    for scores in (b"fresh", b"aged"):
+        yield _book_of(every, scores), sheets.DISTINCT
+    # At 0.01 and 3.00 throughout: loans of every size, some charged less than 0. No score: 1.3 or 3.0 under any sheet.
+    amounts = [pair for row in limit_amounts() for pair in row[:2]]
+    mixed = [loan(*pair, b"%d 7" % (300 + 25 * i), 1 + 20 * i) for i, pair in enumerate(amounts)]
+    for number in (1, 300):
+        yield _book_of(mixed), (number,) * len(sheets.EQUAL)
+    unscored = [loan(*amounts, b"none") for amounts in COLUMNS]
+    yield _book_of(unscored), sheets.DISTINCT
+    yield _book_of(unscored + [loan(1_000_000 + i, 2_000_000) for i in range(95)]), sheets.DISTINCT
+
+
+def _sheet_inputs():
+    """Inputs with a sheet that breaks a rule, or with a header that is refused before the sheet is looked at."""
+    small = _header(1) + LOAN
+    for sheet in (*sheets.LENGTHS, *sheets.OUTSIDE, *sheets.RISING.values(), *sheets.FALLING.values()):
+        yield small, sheet
+    headers = (b"x" * 241 + b"\n", b"", b"x\n", LOAN, _header(1_000_001), _header(0, 1))
+    for header in headers:
+        for sheet in (sheets.DISTINCT, sheets.LENGTHS[0], sheets.OUTSIDE[0]):
+            yield header + LOAN, sheet
+            yield header, sheet
+    # Refused further on: under a sheet that is taken by the line, under one that is not by 10.
+    for sheet in (sheets.DISTINCT, sheets.OUTSIDE[0]):
+        yield small + LOAN, sheet
+        yield _header(2) + LOAN, sheet
+        yield _header(1) + b"x\n", sheet
 
 
 FIXED = (
@@ -321,11 +359,18 @@ def cells_problem(found, report, printed):
     return table_problem(found, report, printed[len(report) :])
 
 
+def copy_problem(run, data, with_cells):
+    """What is wrong with what is printed under a copy of the built-in table, or None."""
+    same = run.sheet is not None or run.under(sheets.BUILT_IN)(data, CELLS) == with_cells
+    return None if same else "otherwise under a copy of the built-in table"
+
+
 def outcome(run, data):
     """What is wrong with what is printed of an input, or None; what is printed without the table, and with it."""
-    found = book.run(data)
+    found = book.run(data, run.sheet)
     report, with_cells = run(data), run(data, CELLS)
-    return problem(found, report) or cells_problem(found, report, with_cells), report, with_cells
+    wrong = problem(found, report) or cells_problem(found, report, with_cells) or copy_problem(run, data, with_cells)
+    return wrong, report, with_cells
 
 
 def alone(opened, line):
@@ -349,7 +394,7 @@ def sums_alone(run, lines):
             continue
         data, small = alone(opened, line)
         printed = run(data)
-        wrong = problem(book.run(data), printed)
+        wrong = problem(book.run(data, run.sheet), printed)
         if wrong is not None:
             return f"of the loan {line!r} alone: {wrong}"
         numbers = sums_of(printed)
@@ -385,16 +430,31 @@ def given_results(run, inputs):
         yield wrong, data, report + with_cells
 
 
-def runner(program):
-    def run(data, *words):
-        return subprocess.run([program, *words], input=data, stdout=subprocess.PIPE, check=True).stdout
+class Runner:
+    """Runs a program over an input, with words; under a sheet where one is given, named before or after other words."""
 
-    return run
+    def __init__(self, program, sheet=None, layout=0):
+        self.program = program
+        self.sheet = sheet
+        self.lent = []
+        self.runs = 0
+        if sheet is not None:
+            self.file = tempfile.NamedTemporaryFile(suffix=".sheet")  # there as long as this is
+            self.file.write(sheets.text(sheet, layout))
+            self.file.flush()
+            self.lent = [SHEET, self.file.name]
+
+    def under(self, sheet, layout=0):
+        return Runner(self.program, sheet, layout)
+
+    def __call__(self, data, *words):
+        self.runs += 1
+        words = [*words, *self.lent] if self.runs % 4 < 2 else [*self.lent, *words]
+        return subprocess.run([self.program, *words], input=data, stdout=subprocess.PIPE, check=True).stdout
 
 
-def stopped(command):
+def stopped(command, data=HEADER + b"x\n", sheet=None):
     """What came out where the input goes on after a refusal: nothing more of it is waited for."""
-    data = HEADER + b"x\n"
     with subprocess.Popen(command, stdin=subprocess.PIPE, stdout=subprocess.PIPE) as process:
         process.stdin.write(data)
         process.stdin.flush()
@@ -404,7 +464,7 @@ def stopped(command):
             process.kill()
             return "more input is waited for after a refusal", data, b""
         printed = process.stdout.read()
-    return problem(book.run(data), printed), data, printed
+    return problem(book.run(data, sheet), printed), data, printed
 
 
 def broken_read(command):
@@ -430,34 +490,87 @@ def broken_write(command):
 
 
 # Words that the program does not know.
-OTHER_WORDS = (("",), ("cell",), ("cellss",), ("Cells",), ("--cells",), ("celle",), ("cells\n",), (CELLS, CELLS), (CELLS, ""), ("x", CELLS))
+OTHER_WORDS = (
+    ("",), ("cell",), ("cellss",), ("Cells",), ("--cells",), ("celle",), ("cells\n",), (CELLS, CELLS), (CELLS, ""), ("x", CELLS),
+    (SHEET,), (CELLS, SHEET), (SHEET, ""), (SHEET, "", CELLS),
+)
 
 
-def other_words(program):
-    """What came out where the program is given other words: a sentence, and no report."""
-    for words in OTHER_WORDS:
+def other_words(program, word, name):
+    """What came out where the program is given other words: a sentence, and no report. The sheet of this name is one."""
+    named = (
+        ("sheets", name), ("Sheet", name), ("--sheet", name), (name,), (CELLS, name), (name, SHEET), (word, name, word, name), (word, name, word),
+        (word, name, name), (word, name, "x"), (word, name, ""), ("x", word, name), (CELLS, word, name, CELLS), (word, name, CELLS, CELLS),
+        (word, CELLS, name), (word, name + "x"),
+    )
+    for words in OTHER_WORDS + named:
         done = subprocess.run([program, *words], input=HEADER, capture_output=True, check=False)
         wrong = None if done.stdout == b"" and done.stderr.endswith(b"\n") else f"with {words} {done.stderr!r} on standard error"
         yield wrong, HEADER, done.stdout
 
 
+# Files that are no list of numbers, and files that are, with how many numbers they have. A file may have 65,535 bytes.
+NO_LISTS = (
+    b"x", b" ", b"\n", b" 1", b"1  2", b"1 \n2", b"1\n\n2", b"1\n\n", b"1\t2", b"1,2", b"1.25", b"01", b"00", b"+1", b"-1", b"1e2", b"0x1",
+    b"123456789012345", b"1\r\n2\r\n", b"1\0", b"\xef\xbb\xbf1", "１".encode(), b"1 " * 32_768, b"1 " * 32_767 + b"x", b"9" * 70_000,
+    sheets.text(sheets.EQUAL) + b"x", sheets.text(sheets.EQUAL) + b"\n", b"\n" + sheets.text(sheets.EQUAL),
+)
+LISTS = {
+    b"": 0, b"0": 1, b"1\n": 1, b"99999999999999 ": 1, b"1 2\n3 ": 3, b"1 " * 32_767: 32_767, b"1 " * 32_767 + b"1": 32_768,
+    sheets.text(sheets.EQUAL, 1) + b" 0": 67, sheets.text(sheets.EQUAL, 1) + b" ": 66,
+}
+
+
+def _sheet_file_problem(done, count):
+    """What is wrong with a run under a file of so many numbers, or under one that is no sheet at all (None); or None."""
+    if count is None:
+        return None if done.stdout == b"" and done.stderr.endswith(b"\n") else f"{done.stderr!r} on standard error"
+    return problem(book.run(HEADER, (100,) * count), done.stdout) or (f"{done.stderr!r} on standard error" if done.stderr else None)
+
+
+def sheet_files(program):
+    """What came out of files that are no sheet: a sentence, and nothing printed; and of lists of other lengths and layouts."""
+    with tempfile.TemporaryDirectory() as folder:
+        path = Path(folder) / "a sheet"
+        written = [(path, text, LISTS.get(text)) for text in (*NO_LISTS, *LISTS)]
+        for file, text, count in [(path, None, None), (folder, None, None), ("/proc/self/mem", None, None), *written]:
+            if text is not None:
+                path.write_bytes(text)
+            done = subprocess.run([program, SHEET, file], input=HEADER, capture_output=True, check=False)
+            wrong = _sheet_file_problem(done, count)
+            yield wrong and f"with the sheet {file} {text and text[:40]!r}: {wrong}", HEADER, done.stdout
+
+
 def single_results(program):
     """What came out of runs that are no books."""
-    for command in ([program], [program, CELLS]):
+    kept, refused = (Runner(program, sheet) for sheet in (sheets.DISTINCT, sheets.OUTSIDE[0]))
+    for words in ([], [CELLS], kept.lent, [CELLS, *kept.lent], [*kept.lent, CELLS]):
         for check in (stopped, broken_read, broken_write):
-            yield check(command)
-    yield from other_words(program)
+            yield check([program, *words])
+    # With 10 no line after the header is waited for.
+    yield stopped([program, *refused.lent], HEADER, refused.sheet)
+    yield from other_words(program, *kept.lent)
+    yield from sheet_files(program)
+
+
+def _lent(run, source, well):
+    """The program under a random sheet: one that keeps the rules, or any."""
+    sheet = sheets.kept(source) if well or source.randrange(2) else sheets.not_kept(source)
+    return run.under(sheet, source.randrange(sheets.LAYOUTS))
 
 
 def results(run, seed, count):
-    """What came out of so many generated books, half of them damaged."""
+    """What came out of so many generated books: half of them damaged, a third under a sheet."""
     source = random.Random(seed)
     for i in range(count):
         lines = whole_book(source)
-        if i % 2 == 0:
-            yield whole_result(run, source, lines)
+        whole = i % 2 == 0
+        lending = _lent(run, source, whole) if i % 3 == 2 else run
+        if whole:
+            yield whole_result(lending, source, lines)
         else:
-            yield from given_results(run, [_joined(source, _damaged(source, lines))])
+            damaged = lines if lending is not run and source.randrange(2) else _damaged(source, lines)
+            yield from given_results(lending, [_joined(source, damaged)])
 
 
 def fixed_results(run):
@@ -465,6 +578,9 @@ def fixed_results(run):
     source = random.Random(60)
     yield from given_results(run, FIXED)
     yield from (whole_result(run, source, lines) for lines in _cell_books())
+    yield from (whole_result(run.under(sheet), source, lines) for lines, sheet in _sheet_books())
+    for data, sheet in _sheet_inputs():
+        yield from given_results(run.under(sheet), [data])
 
 
 def failure(wrong, data, printed):
@@ -478,7 +594,7 @@ def main():
     parser.add_argument("--seed", type=int, default=1)
     parser.add_argument("--book", type=Path, help="the book of this file and no other")
     options = parser.parse_args()
-    run = runner(options.program)
+    run = Runner(options.program)
     if options.book:
         tried = given_results(run, [options.book.read_bytes()])
     else:

@@ -5,7 +5,8 @@ import unittest
 from fractions import Fraction as F
 
 import book_runs
-from reference import book, cells, exponential, forms, loan
+import sheets
+from reference import book, cells, exponential, forms, loan, sheet
 
 
 class Examples(unittest.TestCase):
@@ -107,13 +108,123 @@ class Forms(unittest.TestCase):
         self.assertEqual(forms.read_feeding(b"(claims 1)\n"), 2)
 
 
+def changed(numbers, changes):
+    """A sheet with other numbers at some places."""
+    return [changes.get(place, number) for place, number in enumerate(numbers)]
+
+
+class Sheets(unittest.TestCase):
+    # 000, 1.1.4 iii), in hundredths.
+    PAPER = (
+        [300] * 6 + [205] * 6 + [180] * 6 + [160] * 6 + [135] * 6 + [110] * 6 + [90] + [100] * 5 + [65, 90] + [100] * 4
+        + [55, 65, 90] + [100] * 3 + [45, 55, 65, 90] + [100] * 2 + [40, 45, 55, 65, 90, 100]
+    )
+
+    def test_built_in(self):
+        self.assertEqual(list(sheet.BUILT_IN), self.PAPER)
+
+    def test_taken(self):
+        steps = [10 * (11 - band) + age for band in range(11) for age in range(6)]  # no two neighbours are equal
+        for numbers in (self.PAPER, [1] * 66, [300] * 66, [300] * 30 + [1] * 36, [1, 1, 1, 300, 300, 300] * 11, steps):
+            self.assertIsNone(sheet.broken(numbers))
+
+    def test_length(self):
+        for count in (0, 1, 65, 67, 132):
+            self.assertEqual(sheet.broken([7] * count), ("length", count))
+
+    def test_range(self):
+        self.assertEqual(sheet.broken([0] * 66), ("range", 0))
+        self.assertEqual(sheet.broken([301] * 66), ("range", 0))
+        self.assertEqual(sheet.broken(changed([1] * 66, {60: 0})), ("range", 60))
+        self.assertEqual(sheet.broken(changed([300] * 66, {5: 301})), ("range", 5))
+        self.assertEqual(sheet.broken(changed([300] * 66, {65: 10**14 - 1})), ("range", 65))
+
+    def test_band(self):
+        """The number of a band may not be more than that of the band below, at the same age."""
+        self.assertEqual(sheet.broken(changed([7] * 66, {11: 8})), ("band", 11))
+        self.assertEqual(sheet.broken(changed([7] * 66, {65: 8})), ("band", 65))
+        self.assertEqual(sheet.broken([7] * 6 + [8] * 60), ("band", 6))
+        self.assertEqual(sheet.broken([7] * 60 + [8] * 6), ("band", 60))
+
+    def test_age(self):
+        """The number of an age may not be less than that of the age before, in the same band."""
+        self.assertEqual(sheet.broken(changed([7] * 66, {0: 8})), ("age", 1))
+        self.assertEqual(sheet.broken([9, 8, 8, 8, 8, 8] * 11), ("age", 1))
+        self.assertEqual(sheet.broken(changed([7] * 66, {65: 6})), ("age", 65))
+        self.assertIsNone(sheet.broken(changed([7] * 66, {5: 8})))  # it may fall from a band's last age to the next band's first
+
+    def test_first_broken(self):
+        self.assertEqual(sheet.broken(changed([7] * 66, {20: 0, 30: 301})), ("range", 20))
+        self.assertEqual(sheet.broken(changed([7] * 66, {20: 8, 30: 0})), ("band", 20))
+        self.assertEqual(sheet.broken(changed([7] * 66, {20: 6, 30: 0})), ("age", 20))
+
+    def test_sheets_of_the_tests(self):
+        """Each of those that break the order between two neighbours has this fault alone; random ones keep the rules, or do not."""
+        for (band, age), numbers in sheets.RISING.items():
+            self.assertEqual(sheet.broken(numbers), ("band", 6 * band + 6 + age))
+            self.assertIsNone(sheet.broken(sheets.changed(numbers, 6 * band + 6 + age, 100)))
+        for (band, age), numbers in sheets.FALLING.items():
+            self.assertEqual(sheet.broken(numbers), ("age", 6 * band + age + 1))
+            self.assertIsNone(sheet.broken(sheets.changed(numbers, 6 * band + age, 150)))
+        self.assertEqual((len(sheets.RISING), len(sheets.FALLING)), (60, 55))
+        source = random.Random(66)
+        for _ in range(200):
+            self.assertIsNone(sheet.broken(sheets.kept(source)))
+            self.assertIsNotNone(sheet.broken(sheets.not_kept(source)))
+
+    def test_credit_factor(self):
+        numbers = list(range(101, 167))  # the number tells its place; the rules of loading are not asked here
+        for score, age, place in (
+            (300, 0, 0), (599, 12, 0), (599, 13, 1), (599, 61, 5), (600, 0, 6), (619, 24, 7), (719, 13, 37), (720, 12, 42),
+            (739, 36, 44), (740, 37, 51), (760, 48, 57), (779, 49, 58), (779, 60, 58), (780, 0, 60), (900, 61, 65), (900, 600, 65),
+        ):
+            self.assertEqual(loan.credit_factor((score, age), True, 1, 0, numbers), F(101 + place, 100))
+            first = place - place % 6
+            self.assertEqual(loan.credit_factor((score, age), False, 1, 0, numbers), F(101 + first, 100))
+        self.assertEqual(loan.credit_factor(None, True, 20, 1, numbers), F(13, 10))
+        self.assertEqual(loan.credit_factor(None, True, 19, 1, numbers), 3)
+
+    def test_paper_as_sheet(self):
+        for score in range(300, 901):
+            for age in (0, 12, 13, 24, 25, 36, 37, 48, 49, 60, 61, 600):
+                for aged in (False, True):
+                    factors = [loan.credit_factor((score, age), aged, 1, 0, lent) for lent in (None, self.PAPER)]
+                    self.assertEqual(factors[0], factors[1])
+
+    def test_opening(self):
+        """10 after 1, 2, 7, 3 and 4; a sheet that is taken opens the book, which keeps it."""
+        header = b"(book (loans 3) (unscored 1) (scores aged) (held 0))"
+        long, third, fourth = b" " * 241, header.replace(b"3", b"1000001"), header.replace(b"3", b"0")
+        for line, refusal in ((long, 1), (b"", 2), (b"(claims 7)", 7), (third, 3), (fourth, 4), (header, 10)):
+            self.assertEqual(book.open_book(line, [7] * 65), refusal)
+            self.assertEqual(book.run(line + b"\n", [7] * 65), (refusal, 1))
+        self.assertEqual(book.open_book(header, [7] * 66).sheet, (7,) * 66)
+        self.assertIsNone(book.open_book(header).sheet)
+
+    def test_loan_terms(self):
+        lent = changed([7] * 66, {65: 6, 64: 6, 63: 6, 62: 6, 61: 6, 60: 5})
+        opened = book.open_book(b"(book (loans 2) (unscored 1) (scores aged) (held 0))", lent)
+        for score, m in ((b"900 0", F(5, 100)), (b"900 13", F(6, 100)), (b"779 0", F(7, 100)), (b"none", F(3))):
+            self.assertEqual(opened.loan_terms(forms.read_feeding(book_runs.loan(7, 8, score, 9))), (7, 8, 9, 9, 1, m))
+
+    def test_requirement(self):
+        """The exact requirement of a loan goes with the sheet's number: of 0.02 it is twice that of 0.01."""
+        data = b"(book (loans 1) (unscored 0) (scores fresh) (held 0))\n" + book_runs.loan(10_000_000, 11_000_000)
+        (low, high), (low_twice, high_twice) = (book.run(data, [number] * 66).exact_requirement() for number in (1, 2))
+        self.assertLess(0, low)
+        self.assertLessEqual(2 * low, high_twice)
+        self.assertLessEqual(low_twice, 2 * high)
+        self.assertLess(high_twice - low_twice, F(1, 10**60))
+
+
 class Books(unittest.TestCase):
     def test_small_loan(self):
-        """The numbers of the loan that fills up a book are certain, in a fresh book and in an aged one."""
+        """The numbers of the loan that fills up a book are certain, in a fresh book and in an aged one, under any sheet."""
         for scores in (b"fresh", b"aged"):
-            found = book.run(b"(book (loans 1) (unscored 0) (scores %s) (held 0))\n" % scores + book_runs.SMALL_LOAN)
-            bounds = found.sum_bounds(book_runs.LOAN_DISTANCE)
-            self.assertEqual(bounds, (book_runs.SMALL_TOTAL, book_runs.SMALL_TOTAL, 0, 0))
+            for lent in (None, [1] * 66, [300] * 66):
+                found = book.run(b"(book (loans 1) (unscored 0) (scores %s) (held 0))\n" % scores + book_runs.SMALL_LOAN, lent)
+                bounds = found.sum_bounds(book_runs.LOAN_DISTANCE)
+                self.assertEqual(bounds, (book_runs.SMALL_TOTAL, book_runs.SMALL_TOTAL, 0, 0))
 
     def test_cells(self):
         """The table of three loans with known numbers, two of them in one cell, written out by hand."""

@@ -7,7 +7,7 @@ from fractions import Fraction
 from functools import lru_cache
 from math import ceil, floor
 
-from . import forms, loan
+from . import forms, loan, sheet as sheets
 from .exponential import combination_bounds
 
 OTHER_LINES = 100_000
@@ -131,13 +131,14 @@ def _allowed_numbers(values, distance):
 
 
 class Book:
-    """The header's values and the forms of the lines taken."""
+    """The header's values, the sheet of credit factors where one is lent, and the forms of the lines taken."""
 
-    def __init__(self, loans, unscored, scores, held):
+    def __init__(self, loans, unscored, scores, held, sheet=None):
         self.loans = loans
         self.unscored = unscored
         self.aged = scores == b"aged"
         self.held = held
+        self.sheet = None if sheet is None else tuple(sheet)
         self.taken = []
         self.loan_count = 0
         self.unscored_count = 0
@@ -170,7 +171,8 @@ class Book:
     def loan_terms(self, form):
         """What a loan taken is charged on: balance, value, months, term, sup and its credit factor."""
         balance, value, months, term, score, sup = loan_values(form)
-        return balance, value, months, term, sup, loan.credit_factor(score, self.aged, self.loans, self.unscored)
+        m = loan.credit_factor(score, self.aged, self.loans, self.unscored, self.sheet)
+        return balance, value, months, term, sup, m
 
     def loan_forms(self):
         """The forms of the loans taken."""
@@ -236,10 +238,14 @@ class Book:
         return tuple(ends)
 
 
-def open_book(line):
-    """A book, or the number of the refusal."""
+def open_book(line, sheet=None):
+    """A book, or the number of the refusal: the header's, then 10 where a sheet is lent that breaks a rule."""
     form = forms.read_opening(line)
-    return form if isinstance(form, int) else Book(*form.values)
+    if isinstance(form, int):
+        return form
+    if sheet is not None and sheets.broken(sheet):
+        return 10
+    return Book(*form.values, sheet)
 
 
 def split_lines(data):
@@ -250,10 +256,10 @@ def split_lines(data):
     return lines
 
 
-def run(data):
+def run(data, sheet=None):
     """The open book after a whole input, or (refusal, line number)."""
     lines = split_lines(data)
-    book = open_book(lines[0])
+    book = open_book(lines[0], sheet)
     if isinstance(book, int):
         return book, 1
     for number, line in enumerate(lines[1:], 2):

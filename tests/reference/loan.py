@@ -172,12 +172,17 @@ def band(number):
     return sum(1 for lowest, _ in CREDIT_BANDS if lowest <= number)
 
 
-def credit_factor(score, aged, loans, unscored):
-    """000, 1.1.4. The score is None or (number, age in months); loans and unscored are the header's."""
+def credit_factor(score, aged, loans, unscored, sheet=None):
+    """000, 1.1.4. The score is None or (number, age in months); loans and unscored are the header's.
+
+    A sheet, 66 numbers in hundredths, stands in place of the table of 1.1.4 iii); it has no place for a loan without a score.
+    """
     if score is None:
         return Fraction("3.0") if 20 * unscored > loans else Fraction("1.3")
     number, age = score
     column = sum(1 for limit in AGE_LIMITS if age > limit) if aged else 0
+    if sheet is not None:
+        return Fraction(sheet[(band(number) - 1) * (len(AGE_LIMITS) + 1) + column], 100)
     return Fraction(CREDIT_BANDS[band(number) - 1][1][column])
 
 
