@@ -509,14 +509,14 @@ def other_words(program, word, name):
         yield wrong, HEADER, done.stdout
 
 
-# Files that are no list of numbers, and files that are, with how many numbers they have. A file may have 65,535 bytes.
+# Files that are no list of numbers, and files that are, with how many numbers they have. A file may have 65,536 bytes.
 NO_LISTS = (
     b"x", b" ", b"\n", b" 1", b"1  2", b"1 \n2", b"1\n\n2", b"1\n\n", b"1\t2", b"1,2", b"1.25", b"01", b"00", b"+1", b"-1", b"1e2", b"0x1",
-    b"123456789012345", b"1\r\n2\r\n", b"1\0", b"\xef\xbb\xbf1", "１".encode(), b"1 " * 32_768, b"1 " * 32_767 + b"x", b"9" * 70_000,
+    b"123456789012345", b"1\r\n2\r\n", b"1\0", b"\xef\xbb\xbf1", "１".encode(), b"1 " * 32_768 + b"1", b"1 " * 32_767 + b"x", b"9" * 70_000,
     sheets.text(sheets.EQUAL) + b"x", sheets.text(sheets.EQUAL) + b"\n", b"\n" + sheets.text(sheets.EQUAL),
 )
 LISTS = {
-    b"": 0, b"0": 1, b"1\n": 1, b"99999999999999 ": 1, b"1 2\n3 ": 3, b"1 " * 32_767: 32_767, b"1 " * 32_767 + b"1": 32_768,
+    b"": 0, b"0": 1, b"1\n": 1, b"99999999999999 ": 1, b"1 2\n3 ": 3, b"1 " * 32_767 + b"1": 32_768, b"1 " * 32_768: 32_768,
     sheets.text(sheets.EQUAL, 1) + b" 0": 67, sheets.text(sheets.EQUAL, 1) + b" ": 66,
 }
 
