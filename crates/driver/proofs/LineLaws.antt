@@ -5,7 +5,7 @@ use mathlib.Core.List.{List}
 use Prim.Native.Nat.{ℕ, _+_, _≤_}
 use native.Mathlib.Omega.{arith}
 use lib.Dec.{eqb}
-use borrow.Author.Tests.{eq-eqb, ne-eqb}
+use borrow.Author.Tests.{eq-eqb, ne-eqb, eqb-true, eqb-false}
 use Rattle.exact.specs.Choice.{pick}
 use Rattle.book_model.specs.declared.Book.{Book}
 use Rattle.book_model.specs.declared.Fed.{Fed}
@@ -14,33 +14,6 @@ use Rattle.book_model.specs.Calls.{State, Answer, stateAt, openedOf, fedOf, ope
 use Rattle.book_model.proofs.Demand1.{demand1}
 use Rattle.driver.specs.declared.Progress.{Progress}
 use Rattle.driver.specs.Reading.{Stage, after, withLine, stageAt, progressAfter}
-
--- the answer to a line that is not the first after a refusal
-abbrev answerTo : Stage → List ℕ → Answer
-answerTo p line = pick (eqb (p .number) 1) (opening (p .sheet) line) (feeding (p .state) line)
-
-pub line-sound : (p : Stage) (line : List ℕ) → Sound (p .state) → Sound (withLine p line .state)
-unfolding withLine
-line-sound p line h = go (eqb (p .refusal) 0) (eqb (p .number) 1)
-  where
-    go : (a b : Bool) → Sound (pick a (after (pick b (opening (p .sheet) line) (feeding (p .state) line)) (p .number) (p .sheet)) p .state)
-    go true true = demand1 .opening-sound (p .sheet) line
-    go true false = demand1 .feeding-sound (p .state) line h
-    go false b = h
-
-pub line-number : (p : Stage) (line : List ℕ) → withLine p line .number ≤ p .number + 1
-unfolding withLine
-line-number p line = go (eqb (p .refusal) 0) (eqb (answerTo p line .refusal) 0)
-  where
-    go : (a b : Bool) → pick {A = Stage} a (record {
-      refusal = answerTo p line .refusal;
-      number = pick b (p .number + 1) (p .number);
-      sheet = p .sheet;
-      state = answerTo p line .state;
-    }) p .number ≤ p .number + 1
-    go true true = omega arith
-    go true false = omega arith
-    go false b = omega arith
 
 pub line-refused : (p : Stage) (line : List ℕ) → (p .refusal ≡ 0 → ⊥) → p ≡ withLine p line
 unfolding withLine
@@ -53,6 +26,33 @@ line-opens p line e f = rw (eq-eqb (p .refusal) 0 e, eq-eqb (p .number) 1 f) ref
 pub line-fed : (p : Stage) (line : List ℕ) → p .refusal ≡ 0 → (p .number ≡ 1 → ⊥) → after (feeding (p .state) line) (p .number) (p .sheet) ≡ withLine p line
 unfolding withLine
 line-fed p line e f = rw (eq-eqb (p .refusal) 0 e, ne-eqb (p .number) 1 f) refl
+
+-- what holds of the stage after a line, from what holds in each of these cases
+by-cases : (P : Stage → Type 0) (p : Stage) (line : List ℕ) → P p → P (after (opening (p .sheet) line) (p .number) (p .sheet)) →
+    P (after (feeding (p .state) line) (p .number) (p .sheet)) → P (withLine p line)
+by-cases P p line stays opens feeds = go (eqb (p .refusal) 0) refl (eqb (p .number) 1) refl
+  where
+    go : (a : Bool) → eqb (p .refusal) 0 ≡ a → (b : Bool) → eqb (p .number) 1 ≡ b → P (withLine p line)
+    go true e true f = subst P (line-opens p line (eqb-true (p .refusal) 0 e) (eqb-true (p .number) 1 f)) opens
+    go true e false f = subst P (line-fed p line (eqb-true (p .refusal) 0 e) (eqb-false (p .number) 1 f)) feeds
+    go false e b f = subst P (line-refused p line (eqb-false (p .refusal) 0 e)) stays
+
+pub line-sound : (p : Stage) (line : List ℕ) → Sound (p .state) → Sound (withLine p line .state)
+line-sound p line h =
+    by-cases (λ (q : Stage). Sound (q .state)) p line h (demand1 .opening-sound (p .sheet) line) (demand1 .feeding-sound (p .state) line h)
+
+-- the number after an answer
+next-number : (a : Answer) (number : ℕ) (sheet : List ℕ) → after a number sheet .number ≤ number + 1
+next-number a number sheet = go (eqb (a .refusal) 0)
+  where
+    go : (t : Bool) → pick t (number + 1) number ≤ number + 1
+    go true = omega arith
+    go false = omega arith
+
+pub line-number : (p : Stage) (line : List ℕ) → withLine p line .number ≤ p .number + 1
+line-number p line =
+    by-cases (λ (q : Stage). q .number ≤ p .number + 1) p line (omega arith) (next-number (opening (p .sheet) line) (p .number) (p .sheet))
+    (next-number (feeding (p .state) line) (p .number) (p .sheet))
 
 -- What the code's answers stand for
 
