@@ -37,7 +37,8 @@ use Rattle.book_model.proofs.BoundedShares.{unscored-most}
 use Rattle.book_model.proofs.Closings.{closes-6, closes-9, closes-0}
 use Rattle.book_model.proofs.Demand3.{demand3}
 use Rattle.book_model.proofs.LoanTable.{loan-table}
-use Rattle.book_model.proofs.Openings.{number, openedUnder, sheet-passes, sheet-fails, header-fails, Case, book-opens, sheet-refused, header-refused, caseOf}
+use Rattle.book_model.proofs.Openings.{number, openedUnder, sheet-passes, sheet-fails, header-fails}
+use Rattle.book_model.proofs.Openings.{Case, book-opens, sheet-refused, header-refused, caseOf}
 
 -- Lines
 

@@ -26,7 +26,7 @@ use Rattle.report.specs.Line.{onto}
 use Rattle.report.proofs.Decimal.{digits-value, signed-whole}
 use Rattle.book_report.specs.Report.{unsigned, valueLine, ratioLine, headText, reportText}
 use Rattle.book_model.specs.declared.Book.{Book}
-use Rattle.book_model.specs.Accepted.{Accepted, noneAccepted, countsIn, refusalOf, accept}
+use Rattle.book_model.specs.Accepted.{Accepted, countsIn, refusalOf, accept}
 use Rattle.book_model.specs.Calls.{State, Answer, stateAt, emptyBook, opening, feeding, closingRefusal}
 use Rattle.book_model.specs.Calls.{closingWith, closedWith, reportSize, reportOf}
 use Rattle.book_model.specs.Demand3.{figuresFor, reportFor, afterLines, hundredthsPerLoan, allowance, Writes, Closes, Measured, SameTexts}

@@ -38,8 +38,8 @@ unfolding allWithin runOf same after isNumeral valueFrom headerInRange moneyInRa
 taken = refl
 
 opens : opening builtInSheet workedHeader .refusal ≡ 0
-unfolding allWithin runOf same after isNumeral valueFrom headerInRange numberAt afterNumber placeOf afterWord headerHeld contentOf headerFor headerOf openingRefusal
-    builtInSheet placePasses placesPass sheetPasses
+unfolding allWithin runOf same after isNumeral valueFrom headerInRange numberAt afterNumber placeOf afterWord headerHeld contentOf headerFor headerOf
+    openingRefusal builtInSheet placePasses placesPass sheetPasses
 opens = refl
 
 -- the header counts no loan

@@ -365,7 +365,8 @@ loan-table = record {
   columns = columns;
   adds = cell-adds;
   cells = λ sheet header lines. rw (after-is sheet header lines) (cell-is (termsOf (opened sheet header)) (linesTaken (allFed (opened sheet header) lines)));
-  closes = λ sheet header lines. rw (after-is sheet header lines) (cells-written (termsOf (opened sheet header)) (acceptedOf (allFed (opened sheet header) lines)));
+  closes = λ sheet header lines.
+      rw (after-is sheet header lines) (cells-written (termsOf (opened sheet header)) (acceptedOf (allFed (opened sheet header) lines)));
   sums = λ sheet header lines. cell-sums (termsOf (opened sheet header)) (linesTaken (allFed (opened sheet header) lines));
   alike = λ sheet header lines others p. rw (after-is sheet header lines, after-is sheet header others) (same-tables (termsOf (opened sheet header)) p);
 }

@@ -1,6 +1,8 @@
 -- Demand 2: when, and only when, opening, feeding and closing are refused, and with which number (document 01, "Who can be turned down").
 -- From request L3 on the forms and ranges of the requests of 02 that have landed count as document 01's, and a book is opened and a line
--- taken only where no refusal named in them applies. Up to now that is 10, for a sheet of factors. Lines are spoken of by `bytesOf`, how a form's data is written, and not by any reader; counts by inequalities. Proved in proofs/Demand2.antt.
+-- taken only where no refusal named in them applies. Up to now that is 10, for a sheet of factors.
+-- Lines are spoken of by `bytesOf`, how a form's data is written, and not by any reader; counts by inequalities. Proved in
+-- proofs/Demand2.antt.
 use Prim.Native.Nat.{ℕ, _+_, _≤_, _<_}
 use mathlib.Core.Path.{_≡_}
 use mathlib.Core.Bool.{false}

@@ -91,10 +91,14 @@ answered-lines asked a number sheet lines = go (eqb (a .refusal) 0) refl
   where
     go : (t : Bool) → eqb (a .refusal) 0 ≡ t →
         printedFor asked (withLines (record { refusal = a .refusal; number = pick t (number + 1) number; sheet = sheet; state = a .state }) lines)
-        ≡ pick t (printedFor asked (withLines (record { refusal = 0; number = number + 1; sheet = sheet; state = a .state }) lines)) (refusalLine (a .refusal) number)
-    go true e = ap (λ (r : ℕ). printedFor asked (withLines (record { refusal = r; number = number + 1; sheet = sheet; state = a .state }) lines)) (eqb-true (a .refusal) 0 e)
+        ≡ pick t (printedFor asked (withLines (record { refusal = 0; number = number + 1; sheet = sheet; state = a .state }) lines))
+        (refusalLine (a .refusal) number)
+    go true e =
+        ap (λ (r : ℕ). printedFor asked (withLines (record { refusal = r; number = number + 1; sheet = sheet; state = a .state }) lines))
+        (eqb-true (a .refusal) 0 e)
     go false e =
-        ap (printedFor asked) (refused-lines (record { refusal = a .refusal; number = number; sheet = sheet; state = a .state }) lines (eqb-false (a .refusal) 0 e))
+        ap (printedFor asked)
+        (refused-lines (record { refusal = a .refusal; number = number; sheet = sheet; state = a .state }) lines (eqb-false (a .refusal) 0 e))
         ∙ printed-refused asked (record { refusal = a .refusal; number = number; sheet = sheet; state = a .state }) (eqb-false (a .refusal) 0 e)
 
 feeding-lines : (asked : Bool) (sheet : List ℕ) (lines : List (List ℕ)) (s : State) (number : ℕ) → 2 ≤ number →
@@ -102,7 +106,8 @@ feeding-lines : (asked : Bool) (sheet : List ℕ) (lines : List (List ℕ)) (s :
 unfolding withLines printedFeeding
 feeding-lines asked sheet [] s number h = printed-end asked (record { refusal = 0; number = number; sheet = sheet; state = s }) refl (λ e. omega arith)
 feeding-lines asked sheet (line ∷ lines) s number h =
-    ap (λ (q : Stage). printedFor asked (withLines q lines)) (sym (line-fed (record { refusal = 0; number = number; sheet = sheet; state = s }) line refl (λ e. omega arith)))
+    ap (λ (q : Stage). printedFor asked (withLines q lines))
+    (sym (line-fed (record { refusal = 0; number = number; sheet = sheet; state = s }) line refl (λ e. omega arith)))
     ∙ answered-lines asked (feeding s line) number sheet lines
     ∙ ap (λ (x : List ℕ). pick (eqb (feeding s line .refusal) 0) x (refusalLine (feeding s line .refusal) number))
     (feeding-lines asked sheet lines (feeding s line .state) (number + 1) (omega arith))

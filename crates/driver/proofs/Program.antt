@@ -71,7 +71,8 @@ abbrev atEnd : Bool → Terms → List (List ℕ) → ℕ → List ℕ
 atEnd asked t lines number = pick (tooFew (t .header) (countsIn lines)) (refusalLine 6 number) (withTable asked (reportFor t lines) (cellsFor t lines))
 
 end-is : (asked : Bool) (sheet header : List ℕ) (lines : List (List ℕ)) (number : ℕ) →
-    printedAtEnd asked (stateFor sheet header lines .book) (stateFor sheet header lines .cells) number ≡ atEnd asked (termsOf (opened sheet header)) lines number
+    printedAtEnd asked (stateFor sheet header lines .book) (stateFor sheet header lines .cells) number ≡ atEnd asked
+    (termsOf (opened sheet header)) lines number
 unfolding printedAtEnd stateFor
 end-is asked sheet header lines number =
     let t : Terms = termsOf (opened sheet header) in
@@ -96,7 +97,8 @@ feeding-on : (asked : Bool) (sheet header : List ℕ) (before : List (List ℕ))
     (number : ℕ) → number ≡ 2 + length before →
     Outcome asked sheet (header ∷ (before ++ lines)) (printedFeeding asked (stateFor sheet header before) number lines)
 unfolding printedFeeding stateFor
-feeding-on asked sheet header before [] h number e = rw (append-nil before, e, end-is asked sheet header before (2 + length before)) (at-end asked sheet header before h)
+feeding-on asked sheet header before [] h number e = rw (append-nil before, e, end-is asked sheet header before (2 + length before))
+    (at-end asked sheet header before h)
 feeding-on asked sheet header before (line ∷ lines) h number e =
     rw (step (termsOf (opened sheet header)) (record { kept = before }) line)
     (go (eqb (refusalOf (termsOf (opened sheet header)) (record { kept = before }) line) 0) refl (feeding-on asked sheet header (before ++ (line ∷ [])) lines))
@@ -108,7 +110,9 @@ feeding-on asked sheet header before (line ∷ lines) h number e =
         (AllTaken sheet header (before ++ (line ∷ [])) → (k : ℕ) → k ≡ 2 + length (before ++ (line ∷ [])) →
         Outcome asked sheet (header ∷ ((before ++ (line ∷ [])) ++ lines)) (printedFeeding asked (stateFor sheet header (before ++ (line ∷ []))) k lines)) →
         Outcome asked sheet (header ∷ (before ++ (line ∷ lines)))
-        (pick b (printedFeeding asked (stateOf (termsOf (opened sheet header)) (accept (termsOf (opened sheet header)) (record { kept = before }) line)) (number + 1) lines)
+        (pick b
+        (printedFeeding asked (stateOf (termsOf (opened sheet header)) (accept (termsOf (opened sheet header)) (record { kept = before }) line))
+        (number + 1) lines)
         (refusalLine n number))
     go true f ih =
         let z : n ≡ 0 = eqb-true n 0 f in
@@ -117,7 +121,8 @@ feeding-on asked sheet header before (line ∷ lines) h number e =
         let same : accept (termsOf (opened sheet header)) (record { kept = before }) line ≡ record { kept = before ++ (line ∷ []) } =
         accepted-more (termsOf (opened sheet header)) before line z in
         rw same (rw (append-assoc before (line ∷ []) lines) at (ih more (number + 1) (omega arith)))
-    go false f ih = rw e (not-taken header before line lines n (eqb-false n 0 f) h (feeding-answer (termsOf (opened sheet header)) (record { kept = before }) line))
+    go false f ih =
+        rw e (not-taken header before line lines n (eqb-false n 0 f) h (feeding-answer (termsOf (opened sheet header)) (record { kept = before }) line))
 
 -- an opened book has no line taken
 opened-state : (sheet header : List ℕ) → opening sheet header .state ≡ stateFor sheet header []
@@ -171,9 +176,11 @@ none-refused sheet header before line lines h k e =
     sym (ap (λ (x : History). linesTaken x) (fed-on (opened sheet header) before (line ∷ lines))) ∙ k .taken in
     omega (arith, taken-few past lines, ap length same, ap length all, length-append before (line ∷ lines))
 
-all-fed : (asked : Bool) (sheet header : List ℕ) (before lines : List (List ℕ)) (number : ℕ) → AllTaken sheet header before → AllTaken sheet header (before ++ lines) →
+all-fed : (asked : Bool) (sheet header : List ℕ) (before lines : List (List ℕ)) (number : ℕ) → AllTaken sheet header before → AllTaken sheet header
+    (before ++ lines) →
     number ≡ 2 + length before →
-    printedFeeding asked (stateFor sheet header before) number lines ≡ printedAtEnd asked (stateFor sheet header (before ++ lines) .book) (stateFor sheet header (before ++ lines) .cells) (2 + length (before ++ lines))
+    printedFeeding asked (stateFor sheet header before) number lines ≡ printedAtEnd asked (stateFor sheet header (before ++ lines) .book)
+    (stateFor sheet header (before ++ lines) .cells) (2 + length (before ++ lines))
 unfolding printedFeeding
 all-fed asked sheet header before [] number h k e = rw (append-nil before, e) refl
 all-fed asked sheet header before (line ∷ lines) number h k e =
@@ -186,10 +193,13 @@ all-fed asked sheet header before (line ∷ lines) number h k e =
     n = refusalOf (termsOf (opened sheet header)) (record { kept = before }) line
 
     go : (b : Bool) → eqb n 0 ≡ b →
-        ((m : ℕ) → AllTaken sheet header (before ++ (line ∷ [])) → AllTaken sheet header ((before ++ (line ∷ [])) ++ lines) → m ≡ 2 + length (before ++ (line ∷ [])) →
-        printedFeeding asked (stateFor sheet header (before ++ (line ∷ []))) m lines ≡ printedAtEnd asked (stateFor sheet header ((before ++ (line ∷ [])) ++ lines) .book) (stateFor sheet header ((before ++ (line ∷ [])) ++ lines) .cells)
+        ((m : ℕ) → AllTaken sheet header (before ++ (line ∷ [])) → AllTaken sheet header ((before ++ (line ∷ [])) ++ lines) → m ≡ 2 + length
+        (before ++ (line ∷ [])) →
+        printedFeeding asked (stateFor sheet header (before ++ (line ∷ []))) m lines ≡ printedAtEnd asked
+        (stateFor sheet header ((before ++ (line ∷ [])) ++ lines) .book) (stateFor sheet header ((before ++ (line ∷ [])) ++ lines) .cells)
         (2 + length ((before ++ (line ∷ [])) ++ lines))) →
-        printedFeeding asked (stateFor sheet header before) number (line ∷ lines) ≡ printedAtEnd asked (stateFor sheet header (before ++ (line ∷ lines)) .book) (stateFor sheet header (before ++ (line ∷ lines)) .cells)
+        printedFeeding asked (stateFor sheet header before) number (line ∷ lines) ≡ printedAtEnd asked
+        (stateFor sheet header (before ++ (line ∷ lines)) .book) (stateFor sheet header (before ++ (line ∷ lines)) .cells)
         (2 + length (before ++ (line ∷ lines)))
     go true f ih =
         let z : refusalOf (termsOf (opened sheet header)) (record { kept = before }) line ≡ 0 = eqb-true n 0 f in
@@ -202,7 +212,8 @@ all-fed asked sheet header before (line ∷ lines) number h k e =
 
 -- An input that gives a report prints it.
 reported : (asked : Bool) (sheet header : List ℕ) (lines : List (List ℕ)) → Reports sheet header lines →
-    printedLines asked sheet (header ∷ lines) ≡ withTable asked (reportFor (termsOf (opened sheet header)) lines) (cellsFor (termsOf (opened sheet header)) lines)
+    printedLines asked sheet (header ∷ lines) ≡ withTable asked (reportFor (termsOf (opened sheet header)) lines)
+    (cellsFor (termsOf (opened sheet header)) lines)
 unfolding printedLines
 reported asked sheet header lines r =
     let t : Terms = termsOf (opened sheet header) in
@@ -220,7 +231,8 @@ same-text asked t {lines} {others} p =
 alike : (asked : Bool) (sheet header : List ℕ) (lines others : List (List ℕ)) (x y : List ℕ) → linesOf x ≡ header ∷ lines → linesOf y ≡ header ∷ others →
     Reports sheet header lines → Reports sheet header others → List·Permᴰ lines others → printed asked sheet x ≡ printed asked sheet y
 alike asked sheet header lines others x y e f r q p =
-    ap (printedLines asked sheet) e ∙ reported asked sheet header lines r ∙ same-text asked (termsOf (opened sheet header)) p ∙ sym (reported asked sheet header others q)
+    ap (printedLines asked sheet) e ∙ reported asked sheet header lines r ∙ same-text asked (termsOf (opened sheet header)) p ∙ sym
+    (reported asked sheet header others q)
     ∙ sym (ap (printedLines asked sheet) f)
 
 -- document 01's worked input

@@ -24,7 +24,8 @@ use Rattle.book_model.proofs.LoanTable.{cell-is, cell-sums, cells-written, same
 use Rattle.book_model.proofs.OwnFactors.{own-factors}
 use Rattle.book_model.proofs.Steps.{stateOf}
 use Rattle.histories.specs.Demands.{CallsDemand1, CallsDemand2, CallsDemand3, CallsLoanTable, CallsOwnFactors}
-use Rattle.histories.specs.Given.{OpeningCall, by-open, by-open-sheet, FeedingCall, by-feed, by-feed-with, CloseCall, CellsCall, Given, by-opening, by-feeding}
+use Rattle.histories.specs.Given.{OpeningCall, by-open, by-open-sheet, FeedingCall, by-feed, by-feed-with, CloseCall, CellsCall}
+use Rattle.histories.specs.Given.{Given, by-opening, by-feeding}
 
 -- What each call gave, by its contract
 

@@ -28,8 +28,8 @@ pub record CallsDemand1 : Type 0 where
   pub feeding-numbers : {s : State} {line : List ℕ} {a : Answer} → FeedingCall s line a → List·Memᴰ (a .refusal) (0 ∷ 1 ∷ 2 ∷ 7 ∷ 3 ∷ 5 ∷ 8 ∷ [])
   pub closing-numbers : {b : Book} {buffer after : List ℕ} {r : Closed} → CloseCall b buffer r after → List·Memᴰ (r .refusal) (0 ∷ 6 ∷ 9 ∷ [])
   pub cells-numbers : {b : Book} {cells buffer after : List ℕ} {r : Closed} → CellsCall b cells buffer r after → List·Memᴰ (r .refusal) (0 ∷ 6 ∷ 9 ∷ [])
-  -- Refused, an opening gives the value of an all-zero header under the regulator's table, a feeding the same state, every place of its tables included, and a closing
-  -- leaves every byte.
+  -- Refused, an opening gives the value of an all-zero header under the regulator's table, a feeding the same state, every place of its
+  -- tables included, and a closing leaves every byte.
   pub refused-opening : {sheet line : List ℕ} {a : Answer} → OpeningCall sheet line a → (a .refusal ≡ 0 → ⊥) → a .state ≡ refusedState
   pub refused-feeding : {s : State} {line : List ℕ} {a : Answer} → FeedingCall s line a → (a .refusal ≡ 0 → ⊥) → a .state ≡ s
   pub refused-closing : {b : Book} {buffer after : List ℕ} {r : Closed} → CloseCall b buffer r after → (r .refusal ≡ 0 → ⊥) → after ≡ buffer

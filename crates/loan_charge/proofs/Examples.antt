@@ -3,7 +3,7 @@ use mathlib.Core.Path.{refl}
 use lib.Dec.{lit≤}
 use Rattle.exact.proofs.Dependence.{equals-of}
 use Rattle.loan_charge.specs.Charge.{gaussExponent, valueRatio}
-use Rattle.loan_charge.specs.CreditFactor.{count, band, column, columnServing, builtInRates, builtInSheet, scoredFactor, unscoredFactor, creditFactor}
+use Rattle.loan_charge.specs.CreditFactor.{count, band, column, columnServing, builtInSheet, scoredFactor, unscoredFactor, creditFactor}
 use Rattle.loan_charge.specs.Examples.{Example5, Example6, Example7}
 
 pub example5 : Example5

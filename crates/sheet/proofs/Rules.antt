@@ -9,7 +9,7 @@ use borrow.Author.Tests.{eqb-true, leb-true, eqb-false, leb-false, lt-leb, le-le
 use lib.Dec.{leb, eqb}
 use lib.ListN.{length, getD, take, set}
 use lib.Seq.{take-suc, take-suc-set}
-use Rattle.loan_charge.specs.CreditFactor.{hundredths, entryAt}
+use Rattle.loan_charge.specs.CreditFactor.{hundredths}
 use Rattle.sheet.specs.Sheet.{SheetRules, placePasses, placesPass, sheetPasses}
 
 both : (a b : Bool) → (a && b) ≡ true → (a ≡ true) × (b ≡ true)

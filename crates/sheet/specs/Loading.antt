@@ -4,7 +4,6 @@ use mathlib.Core.Bool.{true}
 use mathlib.Core.List.{List}
 use mathlib.Core.Logic.{_↔_}
 use Prim.Native.Nat.{ℕ, _<_}
-use lib.ListN.{getD}
 use Rattle.loan_charge.specs.CreditFactor.{hundredths, entryAt, builtInSheet, ratesOf, RatesInRange}
 use Rattle.sheet.specs.Sheet.{SheetRules, sheetPasses}
 

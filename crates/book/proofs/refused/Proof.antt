@@ -1,5 +1,4 @@
 use mathlib.Core.Path.{_∙_, ap}
-use Rattle.line_forms.specs.declared.Header.{Header}
 use Rattle.book_model.specs.declared.Book.{Book}
 use Rattle.book_model.specs.declared.Opened.{Opened}
 use Rattle.book_model.specs.Calls.{emptyBook}

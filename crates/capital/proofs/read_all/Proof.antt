@@ -46,7 +46,8 @@ returns c =
     )
 
 same-length : tie.Need-same-length Inv-loop μ-loop
-same-length c = c .before .before .before .buf .given ∙ c .before .before .before .before .before .before .before .before .before .loop .inv .4 ∙ sym (c .before .before .before .before .before .before .before .before .before .before .before .before .before .before .before .pre .1)
+same-length c = c .before .before .before .buf .given ∙ c .before .before .before .before .before .before .before .before .before .loop .inv .4 ∙ sym
+    (c .before .before .before .before .before .before .before .before .before .before .before .before .before .before .before .pre .1)
 
 loop-again : tie.Need-loop-again Inv-loop μ-loop
 loop-again c =
@@ -55,7 +56,8 @@ loop-again c =
     let n : length (r .last .1 .1 .1 .1 .1 .0) ≡ 65536 = c .before .before .before .before .buf .given ∙ l .inv .4 in
     let few : r .result .count ≤ length (r .last .1 .1 .1 .1 .1 .0) = r .ensures .0 .count in
     let on : r .result .run .read ≡ l .run .read + r .result .count = r .ensures .1 .0 .1 in
-    let left : r .result .run .read + 65536 * (l .turns - 1) ≤ 2 ^ 60 = omega (arith, on, few, n, l .inv .2, c .before .before .before .before .before .before .before .before .before .loop-test .taken) in (
+    let left : r .result .run .read + 65536 * (l .turns - 1) ≤ 2 ^ 60 = omega
+    (arith, on, few, n, l .inv .2, c .before .before .before .before .before .before .before .before .before .loop-test .taken) in (
       r .ensures .1 .0 .0,
       rw on (reached-on (l .inv .1) (r .ensures .0)),
       left,

@@ -8,7 +8,8 @@ use Rattle.driver.proofs.end_held.Statement.{statement}
 use Rattle.driver.proofs.end_held.Tie as tie
 
 part-lines-end : tie.Need-part-lines-end
-part-lines-end c = omega (arith, length-set (c .before .before .before .before .before .args .tail .now) (c .before .before .before .before .before .args .held) 10)
+part-lines-end c = omega
+    (arith, length-set (c .before .before .before .before .before .args .tail .now) (c .before .before .before .before .before .args .held) 10)
 
 returns : tie.Need-returns
 returns c =

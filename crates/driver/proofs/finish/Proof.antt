@@ -36,7 +36,8 @@ returns-2 c =
     let e = c .before .before .before .before .before .before .end-held .ensures .0 in
     prints (a .asked) (readingOf (a .run) (now (a .sheet)) (now (a .rates)) (now (a .cells)))
     (rw (
-      ended-line (stageAt (a .run .progress) (now (a .sheet)) (now (a .rates)) (now (a .cells))) line (omega (arith, c .before .before .before .before .before .before .before .before .before .before .before .if1 .left)),
+      ended-line (stageAt (a .run .progress) (now (a .sheet)) (now (a .rates)) (now (a .cells))) line
+          (omega (arith, c .before .before .before .before .before .before .before .before .before .before .before .if1 .left)),
       ← e,
     )
     (c .before .before .put-answer2 .ensures))

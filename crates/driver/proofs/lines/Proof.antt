@@ -32,7 +32,8 @@ returns : tie.Need-returns Inv-loop μ-loop
 returns c =
     let l = c .before .before .before .loop in
     let bytes = c .before .before .before .before .before .before .args .bytes .now in
-    let n : length (drop (l .i) (c .before .before .before .before .before .before .args .bytes .now)) ≡ length (c .before .before .before .before .before .before .args .bytes .now) - l .i = length-drop (l .i) bytes in (
+    let n : length (drop (l .i) (c .before .before .before .before .before .before .args .bytes .now)) ≡ length
+    (c .before .before .before .before .before .before .args .bytes .now) - l .i = length-drop (l .i) bytes in (
       l .inv .0,
       (
         (
@@ -59,7 +60,10 @@ end-line-requires c κs =
     (l .inv .1, omega (arith, c .before .before .before .before .before .before .before .before .before .pre .1), l .inv .4)
 
 add-i : tie.Need-add-i Inv-loop μ-loop
-add-i c = record { fits = omega (arith, c .before .before .before .before .before .before .before .before .before .before .pre .1, c .before .before .before .before .if1 .left) }
+add-i c = record {
+  fits = omega
+      (arith, c .before .before .before .before .before .before .before .before .before .before .pre .1, c .before .before .before .before .if1 .left);
+}
 
 loop-less : tie.Need-loop-less Inv-loop μ-loop
 loop-less c = search needs

@@ -74,7 +74,8 @@ returns-3 c =
     let start = c .before .before .before .before .before .before .before .before in
     let a = start .args in
     let d = c .before .before .before .before .before .close in
-    report-alone (a .asked) (a .b) (now (a .cells)) (now (a .out)) (start .pre .2) (d .ensures .0) (d .ensures .1) (c .before .if1 .left) (c .if2 .left) (a .number)
+    report-alone (a .asked) (a .b) (now (a .cells)) (now (a .out)) (start .pre .2) (d .ensures .0) (d .ensures .1) (c .before .if1 .left) (c .if2 .left)
+    (a .number)
 
 pub put-closing-spec : {M : Type 1} → statement M
 put-closing-spec =

@@ -14,8 +14,10 @@ returns : tie.Need-returns
 unfolding unbroken
 returns c =
     let rates = c .before .before .before .before .built-in-rates in
-    let s : emptyState refusedTerms ≡ stateAt (record { header = zeroHeader; sums = c .before .none .result }) (rates .result) (c .before .before .clear .last .0) =
-    λ i. stateAt (record { header = zeroHeader; sums = sym (c .before .none .ensures) i }) (sym (rates .ensures) i) (sym (c .before .before .clear .ensures) i) in (
+    let s : emptyState refusedTerms ≡ stateAt (record { header = zeroHeader; sums = c .before .none .result }) (rates .result)
+    (c .before .before .clear .last .0) =
+    λ i. stateAt (record { header = zeroHeader; sums = sym (c .before .none .ensures) i }) (sym (rates .ensures) i)
+    (sym (c .before .before .clear .ensures) i) in (
       λ sheet i. record { stage = record { refusal = 0; number = 1; sheet = sheet; state = sym s i }; tail = [] },
       (
         record {

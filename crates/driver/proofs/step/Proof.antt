@@ -23,7 +23,9 @@ returns-2 c =
     (h .ensures .0) (h .ensures .1) (search needs) (c .if2 .taken) (e .ensures .1 .1)
 
 add-from : tie.Need-add-from
-add-from c = record { fits = omega (arith, c .before .before .before .before .before .if2 .left, c .before .before .before .before .before .before .before .before .before .before .before .before .before .before .before .before .before .pre .1) }
+add-from c =
+    let start = c .before .before .before .before .before .before .before .before .before .before .before .before .before .before .before .before .before in
+    record { fits = omega (arith, c .before .before .before .before .before .if2 .left, start .pre .1) }
 
 end-held-requires : tie.Need-end-held-requires
 end-held-requires c κs =
@@ -42,10 +44,12 @@ end-held-requires c κs =
 
 read-lines-requires-2 : tie.Need-read-lines-requires-2
 read-lines-requires-2 c κs =
-    let start = c .before .before .before .before .before .before .before .before .before .before .before .before .before .before .before .before .before .before .before .before in
-    let h = c .before .before .before .before .end-held in (
+    let after = c .before .before .before .before in
+    let start = after .before .before .before .before .before .before .before .before .before .before .before .before .before .before .before .before in
+    let h = after .end-held in (
       h .ensures .1 .0,
-      rw (length-take, length-drop) (omega (arith, h .ensures .1 .1, start .pre .0 .number, c .before .before .before .before .before .before .before .before .if2 .left)),
+      rw (length-take, length-drop)
+          (omega (arith, h .ensures .1 .1, start .pre .0 .number, c .before .before .before .before .before .before .before .before .if2 .left)),
       start .pre .1,
       start .pre .2,
       search needs,
@@ -53,9 +57,10 @@ read-lines-requires-2 c κs =
 
 returns-3 : tie.Need-returns-3
 returns-3 c =
-    let start = c .before .before .before .before .before .before .before .before .before .before .before .before .before .before .before .before .before .before .before .before .before in
+    let found = c .before .before .before .before .before .before .before .before .before .before .before .before .before .before in
+    let start = found .before .before .before .before .before .before .before in
     let a = start .args in
-    let e = c .before .before .before .before .before .before .before .before .before .before .before .before .before .before .line-end in
+    let e = found .line-end in
     let h = c .before .before .before .before .before .before .before .before .before .before .before .hold in
     let n = c .before .before .before .before .before .end-held in
     line-and-more (a .run) (now (a .sheet)) (now (a .rates)) (now (a .cells)) (now (a .chunk)) (start .pre .0) (e .result) (e .ensures .0)

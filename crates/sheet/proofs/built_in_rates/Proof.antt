@@ -1,7 +1,5 @@
 -- `built_in_rates` meets its contract.
 use mathlib.Core.Path.{_∙_, ap}
-use mathlib.Core.List.{List}
-use Prim.Native.Nat.{ℕ}
 use borrow.Author.Needs.{needs}
 use Rattle.loan_charge.specs.CreditFactor.{ratesOf}
 use Rattle.sheet.proofs.Loading.{built-in}
