@@ -7,8 +7,11 @@ ghost use Rattle.loan_charge.specs.CreditFactor.{builtInSheet, builtInRates, ra
 ghost use Rattle.sheet.specs.Sheet.{placePasses, sheetPasses};
 use loan_charge::credit::Rates;
 
+// As many factors in hundredths as a table has rates.
+pub type Sheet = [u64; loan_charge::credit::RATES];
+
 // The regulator's table: eleven bands of scores, six ages each. It is made once and lent, since a constant array would be stored at every use.
-pub fn built_in() -> Rates
+pub fn built_in() -> Sheet
     ensures { λ r. ⌜ r ≡ builtInSheet ⌝ }
 {
     [
