@@ -2,7 +2,7 @@
 """Counts the instructions that the program takes for a loan, and fails where they are more than LIMIT.
 
 A step of the gate: the compiler's inlining is brittle, and time on a shared machine says little. Counted by callgrind on two books of loans; the
-difference is taken, so that the start of the process does not count. A machine without valgrind says so and counts nothing. The last line is
+difference is taken, so that the start of the process and the lines of the house price index do not count. A machine without valgrind says so and counts nothing. The last line is
 'N passed, M failed'.
 """
 import shutil
@@ -15,7 +15,7 @@ import make_book
 
 ROOT = Path(__file__).resolve().parent.parent
 PROGRAM = ROOT / "target" / "bin" / "capital"
-LIMIT = 1350
+LIMIT = 1680
 FEW, MANY = 1_000, 3_000
 SEED = 1
 

@@ -3,16 +3,47 @@
 
 The spread is that of a large insurer: balances around 250,000 dollars, loans from new to nearly paid off, one in
 forty without a score, scores mostly between 620 and 850, one in five with the supplement, loan to value mostly below 100%.
+First come the values of the house price index for every area and month. Six of ten loans were made in these months, so that they
+need them, one before, and three in December 2015 or later; loan to value is as the index has it.
 """
 import argparse
 import random
 import sys
+from pathlib import Path
+
+sys.path.insert(0, str(Path(__file__).resolve().parent.parent / "tests"))
+from reference.forms import AREAS  # noqa: E402
+
+SHARES = (8, 7, 2, 4, 14, 6, 4, 22, 10, 2, 3, 18)  # of the areas among the loans, in per cent
+MONTHS = tuple(100 * year + month for year in range(2005, 2016) for month in range(1, 13))
+DECEMBER = MONTHS[-1]
+INDEX_LINES = len(AREAS) * len(MONTHS)
 
 
-def loan(source, scored):
+def prices(source):
+    """A value for each area and month, in hundredths: near 100 in 2005, with a yearly growth of its own for each area, up and down around it."""
+    found = {}
+    for area in AREAS:
+        value, growth = source.uniform(9_500, 10_200), source.uniform(0.02, 0.07) / 12
+        for month in MONTHS:
+            value *= 1 + growth + source.gauss(0, 0.006)
+            found[area, month] = int(value)
+    return found
+
+
+def made(source):
+    """When and where a loan was made."""
+    before, after = (100 * source.randrange(*years) + source.randrange(1, 13) for years in ((1990, 2005), (2016, 2019)))
+    month = source.choices((source.choice(MONTHS[:-1]), before, DECEMBER, after), (60, 10, 2, 28))[0]
+    return month, source.choices(AREAS, SHARES)[0]
+
+
+def loan(source, scored, month, area, index):
     balance = min(200_000_000, max(100_000, int(source.lognormvariate(17.0, 0.55))))
     # Value over balance: from just under water to several times the balance, as a loan is paid off.
-    value = max(1, int(balance * source.choice((source.uniform(0.85, 1.3), source.uniform(1.0, 2.5), source.uniform(1.5, 8.0)))))
+    value = balance * source.choice((source.uniform(0.85, 1.3), source.uniform(1.0, 2.5), source.uniform(1.5, 8.0)))
+    if MONTHS[0] <= month < DECEMBER:
+        value *= index[area, month] / index[area, DECEMBER]
     months = source.choice((source.randrange(1, 481), source.randrange(180, 361), source.randrange(240, 301)))
     term = source.choice((source.randrange(1, 61), months, min(480, months + source.randrange(0, 60))))
     if scored:
@@ -21,8 +52,8 @@ def loan(source, scored):
     else:
         score = b"none"
     sup = source.randrange(5) == 0
-    return b"(loan (bal %d) (val %d) (amort %d) (term %d) (score %s) (sup %d))" % (
-        balance, value, months, term, score, sup,
+    return b"(loan (bal %d) (val %d) (amort %d) (term %d) (score %s) (sup %d) (from %d) (area %s))" % (
+        balance, max(1, int(value)), months, term, score, sup, month, area,
     )
 
 
@@ -56,10 +87,12 @@ def other(source):
 
 
 def lines(seed, loans, others):
-    """The header and its lines, the other lines scattered among the loans."""
-    source = random.Random(seed)
+    """The header and its lines: the index, then the other lines scattered among the loans."""
+    source, houses = random.Random(seed), random.Random(f"houses {seed}")
     unscored = loans // 40
     yield b"(book (loans %d) (unscored %d) (scores aged) (held %d))" % (loans, unscored, loans * 60_000)
+    index = prices(houses)
+    yield from (b"(index %s %d %d)" % (*place, value) for place, value in index.items())
     places = set(source.sample(range(loans + others), others))
     seen = 0
     for place in range(loans + others):
@@ -68,7 +101,7 @@ def lines(seed, loans, others):
         else:
             # Every fortieth loan is without a score: loans // 40 of them.
             seen += 1
-            yield loan(source, seen % 40 != 0)
+            yield loan(source, seen % 40 != 0, *made(houses), index)
 
 
 def main():
@@ -77,8 +110,8 @@ def main():
     parser.add_argument("--others", type=int, default=20_000)
     parser.add_argument("--seed", type=int, default=1)
     options = parser.parse_args()
-    if not (0 <= options.loans <= 1_000_000 and 0 <= options.others <= 100_000):
-        parser.error("a book has at most 1,000,000 loans and 100,000 other lines")
+    if not (0 <= options.loans <= 1_000_000 and 0 <= options.others <= 100_000 - INDEX_LINES):
+        parser.error(f"a book has at most 1,000,000 loans and, besides the {INDEX_LINES} of the index, {100_000 - INDEX_LINES} other lines")
     out = sys.stdout.buffer
     for line in lines(options.seed, options.loans, options.others):
         out.write(line + b"\n")

@@ -156,6 +156,30 @@ static double provision(double premium, double term, double done)
     return premium * cells[column][(int)done - 1] / 100;
 }
 
+/* 000, 1.1.5: the index of each area and month from January 2005 to December 2015 */
+static double prices[12][132];
+
+static int month_place(double month)
+{
+    int n = (int)month;
+    return (n / 100 - 2005) * 12 + n % 100 - 1;
+}
+
+static int area(const char *name)
+{
+    switch (name[0]) {
+    case 'c': return 0;
+    case 'e': return 1;
+    case 'h': return name[2] == 'l' ? 2 : 3;
+    case 'm': return 4;
+    case 'o': return name[2] == 't' ? 5 : 11;
+    case 'q': return 6;
+    case 't': return 7;
+    case 'v': return name[1] == 'a' ? 8 : 9;
+    default: return 10;
+    }
+}
+
 static double larger(double x, double y) { return x > y ? x : y; }
 static double smaller(double x, double y) { return x < y ? x : y; }
 
@@ -176,7 +200,7 @@ int main(void)
             break;
         p++;
         if (starts(p, "(loan ")) {
-            double balance, value, months, term, score, age, sup, m;
+            double balance, value, months, term, score, age, sup, from, m;
             p = number(p, &balance);
             p = number(p, &value);
             p = number(p, &months);
@@ -189,6 +213,11 @@ int main(void)
                 m = credit_factor((int)score, (int)age, aged);
             }
             p = number(p, &sup);
+            p = number(p, &from);
+            if (from >= 200501 && from < 201512) {
+                const double *price = prices[area(p + strlen(") (area "))];
+                value = value * price[131] / price[month_place(from)];
+            }
             double z = larger(value / balance, 1), t = months / 12;
             int first = term <= 60;
             double base = 100 * m * (at(first ? a_short(t) : a_long(t), z)
@@ -216,6 +245,12 @@ int main(void)
             p = number(p, &pays);
             p = number(p, &factor);
             rest += (larger(cost, 0) + notional * add_on(kind, months) * pays) * factor / 10000;
+        } else if (starts(p, "(index ")) {
+            int place = area(p + strlen("(index "));
+            double month, value;
+            p = number(p, &month);
+            p = number(p, &value);
+            prices[place][month_place(month)] = value;
         } else if (starts(p, "(asset ")) {
             double amount, factor;
             p = number(p, &amount);

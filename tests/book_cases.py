@@ -11,7 +11,6 @@ The stored lists hold only loans whose two numbers the reference leaves no choic
 Further lists (--run) hold any loans: the same lines in two orders, with refused lines between, half of them under a sheet. Their
 reports and tables are compared with the reference, and byte for byte with each other.
 """
-import copy
 import random
 import re
 
@@ -20,11 +19,14 @@ import line_cases
 import sheets
 import stored
 from reference import book, cells
+from reference.forms import AREAS
+from reference.house_index import DECEMBER, FIRST
 from reference.sheet import LENGTH
 
 # Of each closing the bytes that it asks for, the buffer of which a part is lent, and the sizes that are tried.
 LEAST = {b"c": book.REPORT_BUFFER, b"t": cells.BUFFER}
 BUFFERS = {b"c": 640, b"t": 8_320}
+INPUT = 131_072  # bytes that the program reads
 SIZES = {kind: (0, least - 1, least, least + 1, BUFFERS[kind]) for kind, least in LEAST.items()}
 
 
@@ -42,6 +44,7 @@ def _certain_table(found):
     return cells.text(found, least)
 
 
+CLOSED = [b"c%d" % LEAST[b"c"], b"t%d" % LEAST[b"t"]]  # for the report and for the table
 CERTAIN = {b"c": _certain_report, b"t": _certain_table}
 
 
@@ -87,11 +90,12 @@ def answers(calls, texts=CERTAIN):
             yield _closing(open_book, kind, int(rest), texts[kind])
 
 
-def _is_certain(line, header, *lent):
-    """Whether a loan's two numbers are certain under a header: without a sheet, and under each that is lent."""
+def _is_certain(line, header, *lent, values=()):
+    """Whether a loan's two numbers are certain under a header and index lines: without a sheet, and under each that is lent."""
     for sheet in (None, *lent):
         opened = book.open_book(header, sheet)
-        opened.feed(line)
+        refused = [opened.feed(each) for each in (*values, line)]
+        assert not any(refused)
         bounds = opened.sum_bounds(book_runs.LOAN_DISTANCE)
         if bounds[::2] != bounds[1::2]:
             return False
@@ -106,6 +110,16 @@ def _certain_loan(source, scored, header, *lent):
             return line
 
 
+def _certain_months(header, values, balance, value, since, *lent):
+    """The loan of these amounts, made then and there, with the least months from 180 on at which its numbers are certain.
+
+    Where the supplement is next to nothing its number is 0 or -1: there the loan has none.
+    """
+    lines = [book_runs.loan(balance, value, months=months, since=since) for months in range(180, 241)]
+    lines += [line.replace(b"(sup 1)", b"(sup 0)") for line in lines]
+    return next(line for line in lines if _is_certain(line, header, *lent, values=values))
+
+
 def _limit_loans(header):
     """Loans at each limit of the table's columns and one cent either side, whose numbers are certain; some are charged less than 0."""
     amounts = [pair for row in book_runs.limit_amounts() for pair in row[:3]]
@@ -116,22 +130,27 @@ def _limit_loans(header):
 
 
 def _refused_lines(source, open_book):
-    """A few lines that a book refuses as it stands, with 1, 2, 7, 3 or 5."""
+    """A few lines that a book refuses as it stands, with 1, 2, 7, 3, 5, 11 or 12."""
+    area, month = book_runs.random_place(source)
+    set_already = source.sample(sorted(open_book.index.items()), min(1, len(open_book.index)))
     tried = [
+        *(book_runs.index(*place, value) for place, first in set_already for value in (first, 7)),
+        book_runs.loan_line(source, True, book_runs.made(month, area)),
         b"x" * 241, b"", b"(claims 01)", book_runs.HEADER[:-1], b"(asset (amount 7) (factor 10001))",
         book_runs.loan_line(source, True), book_runs.loan_line(source, False),
         line_cases.random_line(source).replace(b"\n", b""),
     ]
-    for line in source.sample(tried, source.randrange(4)):
-        probe = copy.copy(open_book)
-        probe.taken = []
-        if probe.feed(line):
-            yield line
+    return [line for line in source.sample(tried, source.randrange(4)) if open_book.refusal(line)]
 
 
 def _opening(header, sheet=None):
     """The calls that open a book, under a sheet where there is one."""
     return [b"o" + header] if sheet is None else [_lending(sheet), b"s" + header]
+
+
+def _fed(*lines):
+    """The calls that feed lines."""
+    return [b"f" + line for line in lines]
 
 
 def _lending(sheet):
@@ -141,14 +160,12 @@ def _lending(sheet):
 def _feedings(source, header, lines, sheet=None):
     """The calls of a book in a shuffled order of its lines, with refused lines between."""
     open_book = book.open_book(header, sheet)
-    lines = list(lines)
-    source.shuffle(lines)
     calls = _opening(header, sheet)
-    for line in lines:
-        calls += [b"f" + between for between in _refused_lines(source, open_book)]
+    for line in book_runs.another_order(source, lines):
+        calls += _fed(*_refused_lines(source, open_book))
         assert open_book.feed(line) == 0
         calls.append(b"f" + line)
-    return calls + [b"f" + after for after in _refused_lines(source, open_book)]
+    return calls + _fed(*_refused_lines(source, open_book))
 
 
 def _closings(kind=b"c"):
@@ -166,16 +183,16 @@ def _stored_calls():
         calls += [b"o" + header, b"f" + loans[0], b"o" + line, b"f" + loans[0], b"f(claims 1001)", b"c511", b"c512"]
     # Fewer loans than the header's, or fewer without a score: 6 before 9, whatever the buffer.
     calls += [b"o" + header] + _closings()
-    calls += [b"f" + loans[0], b"f" + loans[1]] + _closings()
-    calls += [b"f" + loans[2]] + _closings()
+    calls += _fed(*loans[:2]) + _closings()
+    calls += _fed(loans[2]) + _closings()
     # Closing changes no book: lines go on being taken.
     calls += [b"f(equity -100000000000)"] + _closings() + [b"f(equity 100000000000)", b"f(b 7)"] + _closings()
-    calls += [b"o" + header] + [b"f" + loans[0]] * 3 + _closings()
+    calls += [b"o" + header] + _fed(loans[0]) * 3 + _closings()
     # The same lines in several orders, with refused lines between.
     others = [line for line in book_runs.OTHER_KINDS.split(b"\n") if line]
     for _ in range(4):
         calls += _feedings(source, header, loans + others) + [b"c512"]
-    return calls + _table_calls(source, header, loans) + _sheet_calls(source)
+    return calls + _table_calls(source, header, loans) + _sheet_calls(source) + _index_calls(source)
 
 
 def _refused_headers(header):
@@ -239,16 +256,110 @@ def _charged_calls(source, header):
     for scores in (b"fresh", b"aged"):
         scored, loans = _scored(scores, sheets.DISTINCT)
         for sheet in (sheets.BUILT_IN, sheets.DISTINCT, None):
-            calls += _opening(scored, sheet) + [b"f" + line for line in loans] + [b"c512"]
-        calls += _opening(scored, sheets.DISTINCT) + [b"f" + line for line in loans] + [b"t8192"]
+            calls += _opening(scored, sheet) + _fed(*loans) + [b"c512"]
+        calls += _opening(scored, sheets.DISTINCT) + _fed(*loans) + [b"t8192"]
     # Without a score nothing changes. Another sheet lent to nobody changes nothing in a book that is open.
     unscored = b"f" + _certain_loan(source, False, header)
     alone = header.replace(b"3", b"1")
     calls += [*_opening(alone), unscored, b"c512", *_opening(alone, sheets.DISTINCT), unscored, b"c512"]
-    calls += [*_opening(scored, sheets.DISTINCT), _lending(sheets.EQUAL), *(b"f" + line for line in loans), _lending(()), b"c512", b"nx", b"c512"]
+    calls += [*_opening(scored, sheets.DISTINCT), _lending(sheets.EQUAL), *_fed(*loans), _lending(()), b"c512", b"nx", b"c512"]
     # The same lines in two orders under one sheet, with refused lines between.
     for _ in range(2):
         calls += _feedings(source, scored, loans, sheets.DISTINCT) + [b"c512"]
+    return calls
+
+
+def _index_calls(source):
+    """Calls with the house price index."""
+    fixed = (_missing_calls, _second_value_calls, _reopened_calls, _place_calls, _column_calls)
+    return [call for calls in fixed for call in calls()] + _order_calls(source)
+
+
+def _indexed_loan():
+    """A header that counts one loan, the two index lines that the loan needs, and the loan, whose numbers are certain."""
+    header = b"(book (loans 1) (unscored 0) (scores aged) (held 1000))"
+    own, december = (book_runs.index(b"toronto", month, value) for month, value in ((201003, 9_000), (DECEMBER, 15_000)))
+    return header, own, december, _certain_months(header, (own, december), 20_000_000, 14_000_000, book_runs.made(201003, b"toronto"))
+
+
+def _composite(*lines):
+    return [line.replace(b"toronto", b"other") for line in lines]
+
+
+def _missing_calls():
+    """Each of the two values missing, another area's set in its place; the loan is in no figure and no cell until it is taken."""
+    header, own, december, line = _indexed_loan()
+    calls = []
+    for first, second in ((own, december), (december, own)):
+        calls += _opening(header) + _fed(line, *_composite(own, december), line, first, line, *_composite(line.replace(b"201003", b"201004")))
+        calls += [*CLOSED, *_fed(second, line), *CLOSED, *_fed(line, line.replace(b"720 7", b"none"))]
+    # Equal values are asked for too.
+    return calls + _opening(header) + _fed(own, line, december.replace(b"15000", b"9000"), line)
+
+
+def _second_value_calls():
+    """A second value, equal or not, before and after a loan that looked the first up, also where the first is 1; one out of range is 3."""
+    header, own, december, line = _indexed_loan()
+    lowest = [book_runs.index(b"calgary", FIRST, value) for value in (1, 1, 2)]
+    wrong, composite = [own.replace(b"9000", value) for value in (b"1000001", b"0")], _composite(own, december)
+    again = [own, own.replace(b"9000", b"9001"), own.replace(b"9000", b"1000000"), *wrong]
+    return _opening(header) + _fed(*lowest, *wrong, own, *again, december, december, *composite, *composite, line, *again, december) + CLOSED
+
+
+def _reopened_calls():
+    """Nothing is left of the index after an opening, with a sheet or without, nor after a refused one, which counts no loan: 5 before 12."""
+    header, own, december, line = _indexed_loan()
+    unscored = line.replace(b"720 7", b"none")
+    calls = _opening(header) + _fed(own, december, line)
+    for opening in (_opening(header), _opening(header, sheets.DISTINCT), [b"o", *_opening(header)]):
+        calls += opening + _fed(line, unscored, december, own, december)
+    for refused in (b"", b"(claims 7)", own):
+        calls += [b"o" + refused, *_fed(line, unscored, own, own, december, line), *CLOSED]
+    return calls
+
+
+def _place_calls():
+    """Every area at the ends of the index, each value in a place of its own; loans whose values stay, and a sheet beside the index."""
+    months = (FIRST, 201511, DECEMBER)
+    values = [book_runs.index(area, month, 100 * i + 7 * j + 61) for i, area in enumerate(AREAS) for j, month in enumerate(months)]
+    made = [book_runs.made(month, area) for i, area in enumerate(AREAS) for month in (months[i % 2], (200412, DECEMBER, 190001, 209912)[i % 4])]
+    header = b"(book (loans %d) (unscored 0) (scores aged) (held 0))" % len(made)
+    loans = [_certain_months(header, values, 20_000_000 + i, 19_000_000, since, sheets.DISTINCT) for i, since in enumerate(made)]
+    calls = []
+    for sheet in (None, sheets.DISTINCT):
+        calls += _opening(header, sheet) + _fed(*values, *values[::5], *loans) + CLOSED
+    return calls
+
+
+def _column_calls():
+    """Loans at a limit of the columns by the index alone, and beside it by one in an index; the ends of all ranges; 90% of ten thirds of a cent."""
+    extreme = [(area, month, value) for area, *both in EXTREME for month, value in zip((FIRST, DECEMBER), both)]
+    values = [book_runs.index(*value) for value in book_runs.LIMIT_VALUES + extreme]
+    amounts = [(*row[0], since) for row in book_runs.amounts_by_index() for since in book_runs.LIMIT_PLACES]
+    amounts += [(balance, value, book_runs.made(FIRST, area)) for balance in (1, 200_000_000) for value in (1, 10**10) for area, *_ in EXTREME]
+    amounts.append((3, 1, book_runs.made(FIRST, b"hamilton")))
+    header = b"(book (loans %d) (unscored 0) (scores fresh) (held 0))" % len(amounts)
+    loans = [_certain_months(header, values, *amount) for amount in amounts]
+    return _opening(header) + _fed(*values, *loans) + CLOSED
+
+
+# Areas with the values of January 2005 and of December 2015.
+EXTREME = ((b"hamilton", 3, 10), (b"montreal", 1, 1), (b"quebec", 1, 1_000_000), (b"victoria", 1_000_000, 1), (b"winnipeg", 999_999, 1_000_000), (b"other", 1_000_000, 1_000_000))
+
+
+def _order_calls(source):
+    """Orders of lines that take different loans, and orders that take the same ones."""
+    header = b"(book (loans 2) (unscored 0) (scores fresh) (held 0))"
+    set_values = (b"halifax", 200808, 11_100), (b"halifax", DECEMBER, 13_300), (b"other", DECEMBER, 7)
+    values = [book_runs.index(*value) for value in set_values]
+    amounts = (17_000_000, 200808), (16_000_000, 200412), (18_000_000, DECEMBER)
+    loans = [_certain_months(header, values, balance, 15_000_000, book_runs.made(month, b"halifax")) for balance, month in amounts]
+    calls = []
+    # The first loan is taken only after both values, and then it leaves no room for the last.
+    for order in ((*values, *loans), (values[0], *loans, *values[1:]), (*loans, *values), (loans[1], *values, *loans[::-1]), (*values, *loans[::-1])):
+        calls += _opening(header) + _fed(*order) + CLOSED
+    for _ in range(3):
+        calls += _feedings(source, header, [*values, *loans[:2]]) + CLOSED
     return calls
 
 
@@ -256,9 +367,9 @@ def _table_calls(source, header, loans):
     """Calls for the table."""
     # Of no book; then of one that has not all its loans: 6 before 9, whatever the buffer.
     calls = [b"o"] + _closings(b"t")
-    calls += [b"o" + header, b"f" + loans[0], b"f" + loans[1]] + _closings(b"t")
+    calls += [b"o" + header, *_fed(*loans[:2])] + _closings(b"t")
     # A loan that is refused, with 5 or for its range, is in no cell, before the last loan and after it.
-    calls += [b"f" + loans[2].replace(b"(bal ", b"(bal 9"), b"f" + loans[2]] + _closings(b"t") + [b"f" + line for line in loans]
+    calls += _fed(loans[2].replace(b"(bal ", b"(bal 9"), loans[2]) + _closings(b"t") + _fed(*loans)
     # Once more and after the report: a closing changes nothing, and lines go on being taken.
     calls += [b"t8192", b"t8192", b"c512", b"t8192", b"f(equity 7)", b"t8192", b"c512"]
     # A refused opening leaves no loan.
@@ -278,18 +389,18 @@ def _input(calls):
 
 def stored_files():
     calls = _stored_calls()
-    assert len(_input(calls)) <= stored.BLOCK
+    assert len(_input(calls)) <= INPUT
     return {"stdin": _input(calls), "stdout": b"".join(answers(calls))}
 
 
 def _book_calls(source):
-    """A book, its sheet or None, and calls that make it in two orders; they fit into one block."""
+    """A book, its sheet or None, and calls that make it in two orders; the program reads them whole."""
     while True:
         lines = book_runs.whole_book(source)
         sheet = sheets.kept(source) if source.randrange(2) else None
         closings = [b"%s%d" % (kind, size) for kind in SIZES for size in (LEAST[kind] - 1, source.choice(SIZES[kind][2:]))]
         calls = [call for _ in range(2) for call in _feedings(source, lines[0], lines[1:], sheet) + closings]
-        if len(_input(calls)) <= stored.BLOCK:
+        if len(_input(calls)) <= INPUT:
             return lines, sheet, calls
 
 

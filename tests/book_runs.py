@@ -23,15 +23,18 @@ from pathlib import Path
 
 import line_cases
 import sheets
-from reference import book, cells, forms
+from reference import book, cells, forms, house_index
+from reference.forms import AREAS
+from reference.house_index import DECEMBER, FIRST
 
 CELLS = "cells"  # the word with which the program prints the table too
 SHEET = "sheet"  # the word before the file of a sheet of credit factors
 LOAN_DISTANCE = Fraction(105, 100)  # of a loan's numbers from the exact ones, in cents
 PER_LOAN, BESIDES = 3, 3  # demand 3: the required amount exceeds the exact one by less than this
 
+KEPT = b"(from 201512) (area other)"  # of a loan whose value stays as it is
 # A loan of next to nothing, more than 0: its total number can only be 1, its supplement is 0.
-SMALL_LOAN = b"(loan (bal 1) (val 10000000000) (amort 480) (term 480) (score 900 0) (sup 0))\n"
+SMALL_LOAN = b"(loan (bal 1) (val 10000000000) (amort 480) (term 480) (score 900 0) (sup 0) %s)\n" % KEPT
 SMALL_TOTAL = 1
 
 
@@ -40,9 +43,9 @@ def _header(loans, unscored=0):
 
 
 HEADER = b"(book (loans 0) (unscored 0) (scores fresh) (held 0))\n"
-LOAN = b"(loan (bal 7) (val 7) (amort 7) (term 7) (score 720 7) (sup 1))\n"
-UNSCORED = b"(loan (bal 7) (val 7) (amort 7) (term 7) (score none) (sup 1))\n"
-OUT_OF_RANGE = b"(loan (bal 0) (val 7) (amort 7) (term 7) (score none) (sup 1))\n"
+LOAN = b"(loan (bal 7) (val 7) (amort 7) (term 7) (score 720 7) (sup 1) %s)\n" % KEPT
+UNSCORED = LOAN.replace(b"720 7", b"none")
+OUT_OF_RANGE = UNSCORED.replace(b"bal 7", b"bal 0")
 OTHER_KINDS = (
     b"(policy (class home) (prem 7) (term 300) (done 5))\n(policy (class multi) (prem 7) (term 300) (done 5))\n"
     b"(deriv (kind fx) (cost 7) (notional 7) (months 7) (pays 7) (factor 7))\n(asset (amount 7) (factor 7))\n"
@@ -74,11 +77,20 @@ def _add_ons():
 def _negative_weights():
     """Loans, each alone at m 3.0, whose total is one too low where the exponential of a negative weight is rounded up as the others are."""
     for numbers in ((92937, 125231, 1, 61), (119021, 143973, 3, 60), (161132, 195440, 2, 8)):
-        yield _header(1, 1) + b"(loan (bal %d) (val %d) (amort %d) (term %d) (score none) (sup 0))\n" % numbers
+        yield _header(1, 1) + b"(loan (bal %d) (val %d) (amort %d) (term %d) (score none) (sup 0) %s)\n" % (*numbers, KEPT)
 
 
-def loan(balance, value, score=b"720 7", months=240):
-    return b"(loan (bal %d) (val %d) (amort %d) (term %d) (score %s) (sup 1))" % (balance, value, months, months, score)
+def loan(balance, value, score=b"720 7", months=240, since=KEPT):
+    return b"(loan (bal %d) (val %d) (amort %d) (term %d) (score %s) (sup 1) %s)" % (balance, value, months, months, score, since)
+
+
+def made(month, area=b"other"):
+    """The two fields that say when a loan was made, and where."""
+    return b"(from %d) (area %s)" % (month, area)
+
+
+def index(area, month, value):
+    return b"(index %s %d %d)" % (area, month, value)
 
 
 def _book_of(loans, scores=b"aged"):
@@ -128,6 +140,107 @@ def _cell_books():
     yield _book_of(below + [loan(100_000, 140_000, b"590 7"), loan(100_000, 140_000, b"700 7")])
 
 
+# The months from which a loan needs the index.
+INDEXED = tuple(month for month in range(FIRST, DECEMBER) if 1 <= month % 100 <= 12)
+VALUES_THAT_STAY = (190001, 200412, DECEMBER, 201601, 209912)
+
+
+def _with_index(values, loans):
+    """The lines of a book with index lines (area, month and value) before its loans."""
+    header, *lines = _book_of(loans)
+    return [header, *(index(*value) for value in values), *lines]
+
+
+def _index_books():
+    """Books with index lines, each as its lines; none is refused."""
+    # Every value, no two alike, and a loan of each month that needs them, by turns of every area.
+    every = [(area, month, 5_000 + 11 * place) for place, (area, month) in enumerate(itertools.product(AREAS, (*INDEXED, DECEMBER)))]
+    areas = itertools.cycle(AREAS)
+    yield _with_index(every, [loan(20_000_000 + month, 19_000_000, since=made(month, next(areas))) for month in INDEXED])
+    # Every area at the ends of the index; values that stay, with values set that would move them much, and without.
+    ends = [(area, month, 100 * place + value) for place, area in enumerate(AREAS, 1) for month, value in ((FIRST, 61), (INDEXED[-1], 73), (DECEMBER, 97))]
+    yield _with_index(ends, [loan(9_000_000, 8_000_000, since=made(month, area)) for area in AREAS for month in (FIRST, INDEXED[-1])])
+    staying = [loan(9_000_000, 10_000_000 + i, since=made(month, area)) for i, area in enumerate(AREAS) for month in VALUES_THAT_STAY]
+    yield _book_of(staying)
+    yield _with_index(ends, staying)
+    # The ends of all ranges: products of 10^16 over 1 and of 1 over 2 * 10^14.
+    pairs = list(zip(AREAS, itertools.product((1, 1_000_000), repeat=2)))
+    extremes = [(area, month, value) for area, both in pairs for month, value in zip((FIRST, DECEMBER), both)]
+    amounts = itertools.product((1, 199_999_999, 200_000_000), (1, 9_999_999_999, 10**10))
+    yield _with_index(extremes, [loan(*amount, since=made(FIRST, area), months=m) for amount in amounts for area, _ in pairs for m in (1, 480)])
+    # Each limit of loan-to-value, reached by the index alone, and beside it by one in the balance, the value or an index.
+    for row in amounts_by_index():
+        yield _with_index(LIMIT_VALUES, [loan(*amount, since=since) for amount in row for since in LIMIT_PLACES])
+
+
+# Index values of three areas and months, next to each other: in the first of both a value grows by half.
+LIMIT_MONTHS = dict(zip(INDEXED, (600_000, 599_999, 600_001)))
+LIMIT_AREAS = dict(zip(AREAS, (900_000, 899_999, 900_001)))
+LIMIT_PLACES = [made(month, area) for area in LIMIT_AREAS for month in LIMIT_MONTHS]
+LIMIT_VALUES = [(area, month, value) for area, last in LIMIT_AREAS.items() for month, value in (*LIMIT_MONTHS.items(), (DECEMBER, last))]
+
+
+def amounts_by_index():
+    """For each limit of loan-to-value a balance and a value that is two thirds of what would put the loan on it, and one cent either side."""
+    for limit in cells.LIMITS:
+        part, whole = limit.as_integer_ratio()
+        times = 3 * ((200_000_000 - 1) // (3 * part))
+        balance, value = times * part, times * whole * 2 // 3
+        yield [(balance, value), (balance - 1, value), (balance + 1, value), (balance, value - 1), (balance, value + 1)]
+
+
+def _index_inputs():
+    """Inputs with index lines: most are refused for one, or for a loan that needs one."""
+    own, december, last = index(b"toronto", 201003, 9_000), index(b"toronto", DECEMBER, 15_000), index(b"toronto", DECEMBER, 9_000)
+    one = loan(9_000_000, 8_000_000, since=made(201003, b"toronto"))
+    composite = [line.replace(b"toronto", b"other") for line in (own, december)]
+    header, second = _header(1)[:-1], own.replace(b"9000", b"9001")
+    # Each of the two values missing, or set for another area or after the loan; equal values are asked for too.
+    for before in ((), (own,), (december,), (last,), (own, december), (december, own), (own, last), composite, (own, *composite), (december, *composite)):
+        yield [header, *before, one]
+        yield [header, *before, one.replace(b"toronto", b"other")]
+    yield [header, own, one, december]
+    # A second value, equal or not, also where a loan has looked it up; another area or month is no second.
+    for again in (own, second, second.replace(b"9001", b"1000001"), december, composite[0], own.replace(b"201003", b"201004")):
+        yield [header, own, again, december, one]
+        yield [header, own, december, one, again]
+    # 3 and 5 before 12.
+    yield [_header(0)[:-1], one]
+    yield [header, one.replace(b"720 7", b"none")]
+    yield [_header(2, 1)[:-1], UNSCORED[:-1], one.replace(b"720 7", b"none")]
+    yield [header, LOAN[:-1], one]
+    yield [header, LOAN[:-1], one.replace(b"(bal 9000000)", b"(bal 0)")]
+    # An index line in place of the header; months that are none; no such area; the form of a loan without month and area.
+    yield [own, one]
+    for month in (200413, 200500, 201013, 201513):
+        yield [header, loan(7, 7, since=made(month))]
+        yield [header, index(b"other", month, 7), LOAN[:-1]]
+    yield [header, LOAN[:-1].replace(b"other", b"others")]
+    yield [header, LOAN[: -len(KEPT) - 3] + b")"]
+    # Index lines among the 100,000 lines that are not loans: the last of them, the first too many, 8 before 11 and after 3.
+    almost = ALL_OTHERS.splitlines()[:-1]
+    yield [header, own, *almost[:-1], december, one]
+    for lines in ((own, *almost, own), (*almost, own, december), (*almost, own, b"(b 0)"), (*almost, own, own.replace(b"9000", b"0"))):
+        yield [header, *lines, one]
+
+
+def _same_prints():
+    """Groups of inputs of which the same bytes must be printed: equal values however they are found; index lines alone move nothing."""
+    plain = loan(15_000_000, 20_000_000)
+    found = [
+        (8_000_000, 200, 500), (8_000_000, 2, 5), (8_000_000, 400_000, 1_000_000), (20_000_000, 100, 100), (20_000_000, 1, 1),
+        (20_000_000, 1_000_000, 1_000_000), (10_000_000_000, 1_000, 2), (20, 1, 1_000_000),
+    ]
+    yield [_book_of([plain])] + [
+        _with_index([(b"quebec", FIRST, own), (b"quebec", DECEMBER, december)], [loan(15_000_000, value, since=made(FIRST, b"quebec"))])
+        for value, own, december in found
+    ]
+    header, *loans = _book_of([plain, plain])
+    others = OTHER_KINDS.splitlines()
+    values = [index(area, month, 1_000_000) for area in AREAS for month in (FIRST, INDEXED[-1], DECEMBER)]
+    yield [[header, *loans, *others], [header, *values, *loans, *others], [header, *loans, *others, *values]]
+
+
 def _sheet_books():
     """Books that are not refused, each as its lines and the sheet under which they are charged."""
     ages = (0, 12, 13, 24, 25, 36, 37, 48, 49, 60, 61, 600)
@@ -142,6 +255,10 @@ def _sheet_books():
     unscored = [loan(*amounts, b"none") for amounts in COLUMNS]
     yield _book_of(unscored), sheets.DISTINCT
     yield _book_of(unscored + [loan(1_000_000 + i, 2_000_000) for i in range(95)]), sheets.DISTINCT
+    # With the house price index.
+    values = [(area, month, value) for area, value in zip(AREAS, range(7_000, 19_000, 1_000)) for month, value in ((FIRST, 10_000), (DECEMBER, value))]
+    indexed = [loan(10_000_000, 12_000_000, b"%d 13" % (300 + 50 * i), since=made(FIRST, area)) for i, area in enumerate(AREAS)]
+    yield _with_index(values, indexed), sheets.DISTINCT
 
 
 def _sheet_inputs():
@@ -234,34 +351,89 @@ def _valid_line(source, kind):
             return line
 
 
-def loan_line(source, scored):
+def loan_line(source, scored, since=KEPT):
     """A loan of an ordinary size, or one with any numbers in range."""
     if source.randrange(3) == 0:
-        return _valid_line(source, "loan" if scored else "loan_unscored")
+        line = _valid_line(source, "loan" if scored else "loan_unscored")
+        return line[: line.index(b"(from ")] + since + b")"
     balance = source.randrange(1, 200_000_001)
     value = min(balance * source.randrange(60, 320) // 100 + 1, 10**10)
     age = source.choice((0, 12, 13, 24, 25, 36, 37, 48, 49, 60, 61, 600))
     score = b"%d %d" % (source.randrange(300, 901), age) if scored else b"none"
-    return b"(loan (bal %d) (val %d) (amort %d) (term %d) (score %s) (sup %d))" % (
-        balance, value, source.randrange(1, 481), source.choice((1, 60, 61, 480)), score, source.randrange(2),
+    return b"(loan (bal %d) (val %d) (amort %d) (term %d) (score %s) (sup %d) %s)" % (
+        balance, value, source.randrange(1, 481), source.choice((1, 60, 61, 480)), score, source.randrange(2), since,
     )
+
+
+def random_place(source):
+    """An area and a month from which a loan needs the index."""
+    return source.choice(AREAS), source.choice((FIRST, INDEXED[-1], *source.choices(INDEXED, k=3)))
+
+
+def _random_since(source, places):
+    """When and where a loan was made: at one of these places, or where its value stays as it is."""
+    if places and source.randrange(2):
+        area, month = source.choice(places)
+    else:
+        area = source.choice(AREAS)
+        month = source.choice((*VALUES_THAT_STAY, 100 * source.randrange(1900, 2005) + 7, 100 * source.randrange(2016, 2100) + 7))
+    return made(month, area)
+
+
+def _index_lines(source, places):
+    """Index lines with the values that loans made at these places need, and with a few more."""
+    needed = {(area, month) for area, own in places for month in (own, DECEMBER)}
+    further = {random_place(source) for _ in range(source.choice((0, 0, 1, 5)))}
+    values = (1, 1_000_000, source.randrange(1, 1_000_001), *(source.randrange(6_000, 24_000) for _ in range(9)))
+    return [index(*place, source.choice(values)) for place in sorted(needed | further)]
+
+
+def another_order(source, lines):
+    """Lines that are taken as they stand, in another order that takes them too: a loan stands after the values that it needs."""
+    when, timed = {}, []
+    for line in lines:
+        form = forms.read_feeding(line)
+        needed = house_index.needed(book.loan_values(form)) if book.is_loan(form) else ()
+        time = source.uniform(max((when[place] for place in needed), default=0), 1)
+        if form.kind == "index":
+            when[form.values[:2]] = time
+        timed.append((time, line))
+    return [line for _, line in sorted(timed)]
 
 
 def whole_book(source):
     """A header and lines that fit it."""
     loans = source.choice((0, 1, 2, 5, 19, 20, 21, source.randrange(22, 130)))
     unscored = min(loans, source.choice((0, 1, 2, loans // 20, loans // 20 + 1)))
-    lines = [loan_line(source, i >= unscored) for i in range(loans)]
+    places = [random_place(source) for _ in range(source.choice((0, 1, 3, 8)))]
+    lines = _index_lines(source, places)
+    lines += [loan_line(source, i >= unscored, _random_since(source, places)) for i in range(loans)]
     others = ["policy", "deriv", "asset", "claims", "lossc", "stated", "equity", "aoci", "b", "c"]
     lines += [_valid_line(source, source.choice(others)) for _ in range(source.randrange(12))]
-    source.shuffle(lines)
+    lines = another_order(source, lines)
     held = source.choice((0, 0, 1, 10**6, 10**9, 10**13))
     scores = source.choice((b"fresh", b"aged"))
     return [b"(book (loans %d) (unscored %d) (scores %s) (held %d))" % (loans, unscored, scores, held)] + lines
 
 
+def _index_damaged(source, lines):
+    """With an index line left out, or a second one with its value or another; or with the lines after the header in any order."""
+    i = source.choice([i for i, line in enumerate(lines) if line.startswith(b"(index ")])
+    kind = source.randrange(3)
+    if kind == 0:
+        del lines[i]
+    elif kind == 1:
+        second = source.choice((lines[i], lines[i][: lines[i].rindex(b" ")] + b" %d)" % source.randrange(1, 1_000_001)))
+        lines.insert(source.randrange(1, len(lines) + 1), second)
+    else:
+        lines[1:] = source.sample(lines[1:], len(lines) - 1)
+    return lines
+
+
 def _damaged(source, lines):
     lines = list(lines)
+    if source.randrange(2) and any(line.startswith(b"(index ") for line in lines):
+        return _index_damaged(source, lines)
     i = source.randrange(len(lines))
     kind = source.randrange(6)
     if kind == 0:
@@ -373,26 +545,28 @@ def outcome(run, data):
     return wrong, report, with_cells
 
 
-def alone(opened, line):
-    """The input of a book that holds one loan of an opened book, with the same credit factor; and how many small loans besides.
+def alone(found, line):
+    """The input of a book that holds one loan of a book, with the same credit factor and index values; and how many small loans besides.
 
     Without a score the factor is 1.3 only for one loan of 20 or more.
     """
-    scores = b"aged" if opened.aged else b"fresh"
+    scores = b"aged" if found.aged else b"fresh"
     unscored = b"(score none)" in line
-    small = 19 if unscored and 20 * opened.unscored <= opened.loans else 0
+    small = 19 if unscored and 20 * found.unscored <= found.loans else 0
     header = b"(book (loans %d) (unscored %d) (scores %s) (held 0))\n" % (1 + small, unscored, scores)
-    return header + line + b"\n" + SMALL_LOAN * small, small
+    needed = house_index.needed(book.loan_values(forms.read_feeding(line)))
+    values = b"".join(index(*place, found.index[place]) + b"\n" for place in needed)
+    return header + values + line + b"\n" + SMALL_LOAN * small, small
 
 
 def sums_alone(run, lines):
     """The sums of the two numbers that each loan has alone, and the first in each cell; or what is wrong with a loan."""
-    opened = book.open_book(lines[0])
+    found = book.run(b"\n".join(lines), run.sheet)
     totals, supplement = [], 0
     for line in lines[1:]:
         if not line.startswith(b"(loan "):
             continue
-        data, small = alone(opened, line)
+        data, small = alone(found, line)
         printed = run(data)
         wrong = problem(book.run(data, run.sheet), printed)
         if wrong is not None:
@@ -400,14 +574,12 @@ def sums_alone(run, lines):
         numbers = sums_of(printed)
         totals.append((forms.read_feeding(line), numbers[0] - small * SMALL_TOTAL))
         supplement += numbers[1]
-    return sum(total for _, total in totals), supplement, cells.by_cell(totals)
+    return sum(total for _, total in totals), supplement, cells.by_cell(found, totals)
 
 
 def whole_problem(run, source, lines, report, with_cells):
     """What is wrong with the report and the table of a book that is not refused, or None."""
-    others = lines[1:]
-    source.shuffle(others)
-    data = _joined(source, lines[:1] + others)
+    data = _joined(source, lines[:1] + another_order(source, lines[1:]))
     if run(data) != report:
         return "another report in another order"
     if run(data, CELLS) != with_cells:
@@ -421,6 +593,16 @@ def whole_result(run, source, lines):
     data = _joined(source, lines)
     wrong, report, with_cells = outcome(run, data)
     return wrong or whole_problem(run, source, lines, report, with_cells), data, report + with_cells
+
+
+def same_results(run, groups):
+    """What came out of groups of inputs of which the same bytes must be printed."""
+    for group in groups:
+        inputs = [b"\n".join(lines) for lines in group]
+        yield from given_results(run, inputs)
+        first, *others = (run(data, CELLS) for data in inputs)
+        for data, printed in zip(inputs[1:], others, strict=True):
+            yield (None if printed == first else f"not as of another input with equal values: {first!r}"), data, printed
 
 
 def given_results(run, inputs):
@@ -578,6 +760,9 @@ def fixed_results(run):
     source = random.Random(60)
     yield from given_results(run, FIXED)
     yield from (whole_result(run, source, lines) for lines in _cell_books())
+    yield from (whole_result(run, source, lines) for lines in _index_books())
+    yield from given_results(run, (_joined(source, lines) for lines in _index_inputs()))
+    yield from same_results(run, _same_prints())
     yield from (whole_result(run.under(sheet), source, lines) for lines, sheet in _sheet_books())
     for data, sheet in _sheet_inputs():
         yield from given_results(run.under(sheet), [data])

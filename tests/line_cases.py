@@ -1,22 +1,23 @@
 #!/usr/bin/env python3
-"""Cases for the line forms: `length feeding opening kind a b c d e f g line`, the line as it is, of any bytes.
+"""Cases for the line forms: `length feeding opening kind a b c d e f g h i line`, the line as it is, of any bytes.
 
 `feeding` and `opening` are the refusals of the line as one after the header and as the header, 0 where it is
-accepted. Where it is, `kind` and the seven numbers are what it holds (see `numbers_of`), else they are 0.
+accepted. Where it is, `kind` and the nine numbers are what it holds (see `numbers_of`), else they are 0.
 """
 import itertools
 import random
 
 import stored
 from reference import forms
-from reference.forms import MONEY, Form
+from reference.forms import AREAS, FROM, INDEX, MONEY, Form, Months
 
-KINDS = {"loan": 1, "loan_unscored": 2, "policy": 3, "deriv": 4, "asset": 5, "book": 7}
+KINDS = {"loan": 1, "loan_unscored": 2, "policy": 3, "deriv": 4, "asset": 5, "book": 7, "index": 8}
 AMOUNTS = ("claims", "lossc", "stated", "equity", "aoci", "b", "c")  # kind 6, numbered from 0
 CLASSES = (b"home", b"multi")
 DERIVATIVES = (b"rate", b"float", b"fx", b"equity", b"metal", b"other")
+NUMBERS = 9
 
-# A form as a list of fields; each field is text, or a range of a number, or a choice of words.
+# A form as a list of fields; each field is text, or a range of a number or of a month, or a choice of words.
 FIELDS = {
     "book": (
         b"(book (loans ", (0, 1_000_000), b") (unscored ", (0, 1), b") (scores ", (b"fresh", b"aged"), b") (held ",
@@ -24,11 +25,11 @@ FIELDS = {
     ),
     "loan": (
         b"(loan (bal ", (1, 200_000_000), b") (val ", (1, 10**10), b") (amort ", (1, 480), b") (term ", (1, 480),
-        b") (score ", (300, 900), b" ", (0, 600), b") (sup ", (0, 1), b"))",
+        b") (score ", (300, 900), b" ", (0, 600), b") (sup ", (0, 1), b") (from ", FROM, b") (area ", AREAS, b"))",
     ),
     "loan_unscored": (
         b"(loan (bal ", (1, 200_000_000), b") (val ", (1, 10**10), b") (amort ", (1, 480), b") (term ", (1, 480),
-        b") (score none) (sup ", (0, 1), b"))",
+        b") (score none) (sup ", (0, 1), b") (from ", FROM, b") (area ", AREAS, b"))",
     ),
     "policy": (
         b"(policy (class ", CLASSES, b") (prem ", (0, 100_000_000), b") (term ", (1, 480), b") (done ", (0, 40), b"))",
@@ -38,6 +39,7 @@ FIELDS = {
         (0, 600), b") (pays ", (1, 100), b") (factor ", (0, 10_000), b"))",
     ),
     "asset": (b"(asset (amount ", (0, MONEY), b") (factor ", (0, 10_000), b"))"),
+    "index": (b"(index ", AREAS, b" ", INDEX, b" ", (1, 1_000_000), b")"),
     "claims": (b"(claims ", (0, MONEY), b")"),
     "lossc": (b"(lossc ", (0, MONEY), b")"),
     "stated": (b"(stated ", (0, MONEY), b")"),
@@ -52,6 +54,17 @@ ODD_NUMBERS = (
     b"1,000", b"9" * 14, b"1" + b"0" * 14, b"9" * 15, b"-" + b"9" * 14, b"-1" + b"0" * 14, b"0" * 14, b"9" * 20,
     b"18446744073709551617", b"\xb2", b"\xd9\xa3",
 )
+# Months and other numbers at each end of a range of months and beside it: before and after a year, of other lengths.
+MONTHS = (
+    189912, 189913, 190000, 190001, 190012, 190013, 200412, 200413, 200500, 200501, 200512, 200513, 201500, 201501, 201511, 201512,
+    201513, 201599, 201601, 209900, 209912, 209913, 210000, 210001, 210012, 1, 12, 101, 2015, 20151, 99912, 1000001, 2015012, 2015120,
+    19_000_001, 20_050_100, 10**9 + 201512, 2**32 + 201512, 99_999_999_999_912, 10**13 + 201512,
+)
+ODD_MONTHS = (b"0201512", b"00201512", b"020151", b"2015-12", b"2015 12", b"201512.", b"201512 ", b"-201512", b"+201512", b"YYYYMM")
+ODD_AREAS = (
+    b"gatineau", b"ottawa", b"ottawa-gatineau", b"ottawa gatineau", b"ottawagatineaus", "montr\u00e9al".encode(), "qu\u00e9bec".encode(), b"composite",
+    b"canada", b"none", b"others", b"othe", b"otherother", b"11", b"calgary other",
+)
 
 
 def _signed(x):
@@ -59,10 +72,13 @@ def _signed(x):
 
 
 def numbers_of(form):
-    """The kind and the seven numbers of an accepted line."""
+    """The kind and the nine numbers of an accepted line; a word is its place among its choices."""
     v = form.values
-    if form.kind == "loan_unscored":
-        found = v[:4] + (0, 0) + v[4:]
+    if form.kind in ("loan", "loan_unscored"):
+        score = v[4:6] if form.kind == "loan" else (0, 0)
+        found = v[:4] + score + v[-3:-1] + (AREAS.index(v[-1]),)
+    elif form.kind == "index":
+        found = (AREAS.index(v[0]),) + v[1:]
     elif form.kind == "policy":
         found = (CLASSES.index(v[0]),) + v[1:]
     elif form.kind == "deriv":
@@ -73,12 +89,12 @@ def numbers_of(form):
         found = (AMOUNTS.index(form.kind),) + _signed(v[0])
     else:
         found = v
-    return (KINDS.get(form.kind, 6),) + found + (0,) * (7 - len(found))
+    return (KINDS.get(form.kind, 6),) + found + (0,) * (NUMBERS - len(found))
 
 
 def case(line):
     feeding, opening = forms.read_feeding(line), forms.read_opening(line)
-    numbers = (0,) * 8
+    numbers = (0,) * (1 + NUMBERS)
     answers = []
     for answer in (feeding, opening):
         if isinstance(answer, Form):
@@ -96,9 +112,24 @@ def _choices(field):
     if isinstance(field[0], bytes):
         return list(field)
     low, high = field
-    middle = max(low, min(high, 720 if high == 900 else 7))
-    values = [middle, low, high, high + 1, low + 1, high - 1] + ([low - 1] if low else [])
+    if isinstance(field, Months):
+        values = [201512, low, high, *MONTHS]
+    else:
+        middle = max(low, min(high, 720 if high == 900 else 7))
+        values = [middle, low, high, high + 1, low + 1, high - 1] + ([low - 1] if low else [])
     return [b"%d" % x for x in dict.fromkeys(values)]
+
+
+def _odd_texts(field):
+    """What is tried in a field besides, most of it no number and no word of it."""
+    if not isinstance(field[0], bytes):
+        return ODD_NUMBERS + (ODD_MONTHS if isinstance(field, Months) else ())
+    near = [
+        text
+        for word in field
+        for text in (word.upper(), word.capitalize(), word + b"s", word[:-1], word[1:], word[:-1] + bytes((word[-1] ^ 1,)), word[:1] + word)
+    ]
+    return [b"", b"gold", b"0", field[0] + field[1], b"|".join(field[:2]), *near, *(ODD_AREAS if field is AREAS else ())]
 
 
 def _with(fields, i, text):
@@ -114,16 +145,29 @@ def _ranges():
     for fields in FIELDS.values():
         variable = [i for i, f in enumerate(fields) if not isinstance(f, bytes)]
         for i in variable:
-            for text in _choices(fields[i]):
+            for text in (*_choices(fields[i]), *_odd_texts(fields[i])):
                 yield _with(fields, i, text)
-            if isinstance(fields[i][0], bytes):
-                for text in (b"", b"gold", fields[i][0].upper(), fields[i][0] + b"s", fields[i][0][:-1], b"0"):
-                    yield _with(fields, i, text)
-            else:
-                for text in ODD_NUMBERS:
-                    yield _with(fields, i, text)
         for end in (1, 2):
             yield b"".join(_choices(f)[min(end, len(_choices(f)) - 1)] for f in fields)
+
+
+def longest(fields):
+    """A form with 14 digits for every number and its longest words."""
+    return b"".join(f if isinstance(f, bytes) else max(f, key=len) if isinstance(f[0], bytes) else b"9" * 14 for f in fields)
+
+
+def _index_lines():
+    """Every area at both ends of the months and of the values, which keep their order; loans of each area at the index's ends."""
+    ordinary = _ordinary(FIELDS["loan"])
+    for area in AREAS:
+        for month in (200500, 200501, 201512, 201513):
+            for value in (0, 1, 1_000_000, 1_000_001):
+                yield b"(index %s %d %d)" % (area, month, value)
+        yield b"(index %s 201512)" % area
+        yield b"(index 201512 %s 7)" % area
+        yield b"(index %s 7 201512)" % area
+        for month in (200412, 200501, 201511, 201512):
+            yield ordinary.replace(b"(from 201512) (area calgary)", b"(from %d) (area %s)" % (month, area))
 
 
 def _headers():
@@ -153,12 +197,13 @@ def _bytes(source):
 def _shapes():
     """Other orders, missing and further fields, other surroundings, other lengths."""
     loan = _ordinary(FIELDS["loan"])
-    parts = [b"(bal 7)", b"(val 7)", b"(amort 7)", b"(term 7)", b"(score 720 7)", b"(sup 1)"]
-    for order in itertools.islice(itertools.permutations(parts), 0, 720, 29):
+    parts = [b"(bal 7)", b"(val 7)", b"(amort 7)", b"(term 7)", b"(score 720 7)", b"(sup 1)", b"(from 201512)", b"(area other)"]
+    for order in itertools.islice(itertools.permutations(parts), 0, None, 1601):
         yield b"(loan " + b" ".join(order) + b")"
+    # A field left out, doubled, exchanged with the next, and a loan that ends before it, as once with sup.
     for i in range(len(parts)):
-        yield b"(loan " + b" ".join(parts[:i] + parts[i + 1 :]) + b")"
-        yield b"(loan " + b" ".join(parts[: i + 1] + parts[i:]) + b")"
+        for fields in (parts[:i] + parts[i + 1 :], parts[: i + 1] + parts[i:], parts[:i] + parts[i : i + 2][::-1] + parts[i + 2 :], parts[:i]):
+            yield b"(loan " + b" ".join(fields) + b")"
     for name, fields in FIELDS.items():
         line = _ordinary(fields)
         for before in (b" ", b"\t", b"\0", b"(", b"0", b"\xef\xbb\xbf"):
@@ -171,6 +216,7 @@ def _shapes():
         yield line.replace(b") (", b")(")
         yield line.replace(b"(", b"[").replace(b")", b"]")
         yield line[1:-1]
+        yield longest(fields)
         yield b"(" + name.encode() + b")"
         yield b"(" + name.encode() + b" )"
         for length in (239, 240, 241, 242):
@@ -186,6 +232,14 @@ def _shapes():
         yield b"(c %c)" % b
 
 
+def random_inside(source, field):
+    """A number of a range, or a month of a range of months."""
+    low, high = field
+    if isinstance(field, Months):
+        return source.randrange(low // 100, high // 100 + 1) * 100 + source.randrange(1, 13)
+    return source.randrange(low, high + 1)
+
+
 def random_line(source):
     """A line of some form with numbers of any size, sometimes damaged in up to three places."""
     fields = source.choice(list(FIELDS.values()))
@@ -197,7 +251,7 @@ def random_line(source):
             out.append(source.choice(field))
         else:
             low, high = field
-            inside, any_size = source.randrange(low, high + 1), source.randrange(10 ** source.randrange(1, 15))
+            inside, any_size = random_inside(source, field), source.randrange(10 ** source.randrange(1, 15))
             out.append(b"%d" % source.choice((low, high, high + 1, low - 1, inside, inside, any_size)))
     line = b"".join(out)
     for _ in range(source.choice((0, 0, 0, 1, 2, 3))):
@@ -208,7 +262,8 @@ def random_line(source):
 
 def stored_files():
     source = random.Random(240)
-    lines = itertools.chain(_ranges(), _headers(), _shapes(), _bytes(source), (random_line(source) for _ in range(1200)))
+    random_lines = (random_line(source) for _ in range(1200))
+    lines = itertools.chain(_ranges(), _headers(), _index_lines(), _shapes(), _bytes(source), random_lines)
     return stored.case_files(case(line) for line in dict.fromkeys(lines))
 
 

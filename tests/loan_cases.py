@@ -10,6 +10,7 @@ is p / q balances, m is in 10^17ths, and the allowed numbers are in cents.
 Further loans (--run) are compared twice: by the program, and here with its own two numbers of each loan. It prints the
 numbers of a loan that is outside what is allowed, so the second time nothing is allowed. The largest distances are printed.
 """
+import itertools
 import random
 import re
 import subprocess
@@ -24,6 +25,7 @@ DISTANCE = Fraction(105, 100)
 UNIT = 10**17
 P_MOST, Q_MOST = 10**18, 2 * 10**16
 BALANCE_MOST = 200_000_000
+VALUE_MOST, INDEX_MOST = 10**10, 10**6
 MONTHS_MOST = 480
 FACTORS = {f for _, row in loan.CREDIT_BANDS for f in row} | {"1.3", "3.0", "0.01"}
 M_VALUES = sorted({int(Fraction(f) * UNIT) for f in FACTORS})
@@ -82,6 +84,38 @@ def _ordinary(source):
     balance = _spread(source, BALANCE_MOST)
     value = min(max(int(balance * Fraction(source.randrange(700, 3500), 1000)), 1), 10**10)
     return value, balance, balance
+
+
+def _by_index(value, balance, own, december):
+    """p, q and balance of a loan whose value goes by two index values: neither product is shortened."""
+    return value * december, balance * own, balance
+
+
+def _indexed(source):
+    """A loan of a plain book whose value goes by the index."""
+    value, balance, _ = _ordinary(source)
+    own, december = (source.choice((1, INDEX_MOST, *(source.randrange(6_000, 24_000) for _ in range(4)))) for _ in range(2))
+    months = source.randrange(1, MONTHS_MOST + 1)
+    return *_by_index(value, balance, own, december), months, _term(source, months), source.randrange(2), _m(source)
+
+
+def _index_ends():
+    """The ends of the ranges of value, balance and both index values."""
+    for amounts in itertools.product((1, VALUE_MOST), (1, BALANCE_MOST), (1, INDEX_MOST), (1, INDEX_MOST)):
+        for months in (1, 8, 300, MONTHS_MOST):
+            for term in (60, 61):
+                yield *_by_index(*amounts), months, term, 1, UNIT
+
+
+def _equal_fractions(source):
+    """Loans alike but for the two numbers of the same fraction: times index values that cancel, and in lowest terms."""
+    for _ in range(60):
+        value, balance, _ = _ordinary(source)
+        months, sup, m = source.randrange(1, MONTHS_MOST + 1), source.randrange(2), _m(source)
+        term = _term(source, months)
+        lowest = Fraction(value, balance).as_integer_ratio()
+        for over in (lowest, (value, balance), *((value * times, balance * times) for times in (2, 9_999, INDEX_MOST))):
+            yield *over, balance, months, term, sup, m
 
 
 def _m(source):
@@ -192,6 +226,7 @@ def stored_files():
     loans = list(_extremes()) + list(_each_month(source)) + list(_each_factor(source))
     loans += [_nearly_paid(source) for _ in range(500)]
     loans += [_random(source) for _ in range(3000)]
+    loans += [*_index_ends(), *_equal_fractions(source), *(_indexed(source) for _ in range(400))]
     return stored.case_files([case(*values) for values in loans] + [factor_case(*values) for values in _factors()])
 
 
@@ -229,7 +264,8 @@ def compare(loans, bounds, numbers):
 
 def further(program, seed, count):
     source = random.Random(seed)
-    loans = [_nearly_paid(source) if i % 8 == 0 else _random(source) for i in range(count)]
+    kinds = (_nearly_paid, _indexed, *[_random] * 6)
+    loans = [kinds[i % len(kinds)](source) for i in range(count)]
     bounds = list(map(_bounds, loans))
     within = stored.run(program, (case(*values, ranges=known[0]) for values, known in zip(loans, bounds)))
     return compare(loans, bounds, numbers_of(program, loans)) and within

@@ -1,12 +1,14 @@
 """The reference held to document 01's twelve examples, and to Python's own decimal exponential."""
 import decimal
 import random
+import unicodedata
 import unittest
 from fractions import Fraction as F
 
 import book_runs
+import line_cases
 import sheets
-from reference import book, cells, exponential, forms, loan, sheet
+from reference import book, cells, exponential, forms, house_index, loan, sheet
 
 
 class Examples(unittest.TestCase):
@@ -106,6 +108,139 @@ class Forms(unittest.TestCase):
         self.assertEqual(forms.read_feeding(b" " * 241), 1)
         self.assertEqual(forms.read_feeding(b" " * 240), 2)
         self.assertEqual(forms.read_feeding(b"(claims 1)\n"), 2)
+
+
+def fed(header, *lines):
+    """A book fed some lines, and their refusals."""
+    opened = book.open_book(header)
+    return opened, [opened.feed(line) for line in lines]
+
+
+class HouseIndex(unittest.TestCase):
+    HEADER = b"(book (loans 3) (unscored 1) (scores aged) (held 0))"
+    OWN, DECEMBER = book_runs.index(b"toronto", 201003, 9000), book_runs.index(b"toronto", 201512, 15000)
+    LOAN = book_runs.loan(700, 100, since=book_runs.made(201003, b"toronto"))
+
+    def refusal(self, *lines, header=HEADER):
+        """The refusal of the last line; those before are taken."""
+        refusals = fed(header, *lines)[1]
+        self.assertFalse(any(refusals[:-1]))
+        return refusals[-1]
+
+    def test_areas(self):
+        """000, Appendix A, section 2, in lower case without accents, hyphens or spaces."""
+        paper = "Calgary Edmonton Halifax Hamilton Montr\u00e9al Ottawa-Gatineau Qu\u00e9bec Toronto Vancouver Victoria Winnipeg".split()
+        plain = [unicodedata.normalize("NFD", name).encode("ascii", "ignore").lower().replace(b"-", b"") for name in paper]
+        self.assertEqual(list(forms.AREAS), plain + [b"other"])
+
+    def test_months(self):
+        """What is not among the months is 3, a leading zero is no D."""
+        taken = (190001, 190012, 199906, 200412, 200501, 201511, 201512, 209912)
+        not_taken = (0, 1, 12, 189912, 190000, 190013, 200413, 200500, 201513, 209913, 210001, 20151, 2015012, 99_999_999_999_912)
+        for month in taken:
+            self.assertEqual(forms.read_feeding(book_runs.loan(7, 7, since=book_runs.made(month))).values[-2:], (month, b"other"))
+        for month in not_taken:
+            self.assertEqual(forms.read_feeding(book_runs.loan(7, 7, since=book_runs.made(month))), 3)
+        for month in (b"0201512", b"", b"201512012345678", b"2015-12"):
+            self.assertEqual(forms.read_feeding(book_runs.loan(7, 7, since=b"(from %s) (area other)" % month)), 2)
+
+    def test_index_line(self):
+        for month, value in ((200501, 1), (200512, 1_000_000), (201512, 7)):
+            self.assertEqual(forms.read_feeding(book_runs.index(b"quebec", month, value)), ("index", (b"quebec", month, value)))
+        for month, value in ((200412, 7), (200500, 7), (200513, 7), (201513, 7), (201601, 7), (0, 7), (201512, 0), (201512, 1_000_001)):
+            self.assertEqual(forms.read_feeding(book_runs.index(b"quebec", month, value)), 3)
+        for line in (b"(index regina 201512 7)", b"(index Quebec 201512 7)", b"(index quebec 201512 07)", b"(index quebec 0201512 7)", b"(index quebec 201512)"):
+            self.assertEqual(forms.read_feeding(line), 2)
+        self.assertEqual(forms.read_opening(self.OWN), 7)
+
+    def test_forms(self):
+        """The form without month and area is none any more; no form is longer than a line may be."""
+        self.assertEqual(forms.read_feeding(b"(loan (bal 7) (val 7) (amort 7) (term 7) (score none) (sup 1))"), 2)
+        self.assertEqual(max(len(line_cases.longest(fields)) for fields in line_cases.FIELDS.values()), 196)
+
+    def test_property_value(self):
+        """9000 in its month and 15000 in December 2015: five thirds of the value, not rounded."""
+        opened, refusals = fed(self.HEADER, self.OWN, self.DECEMBER, self.LOAN)
+        self.assertEqual(refusals, [0, 0, 0])
+        self.assertEqual(opened.property_value(opened.taken[-1]), F(500, 3))
+        self.assertEqual(opened.loan_terms(opened.taken[-1])[:2], (700, F(500, 3)))
+
+    def test_values_that_stay(self):
+        """Before 2005 and from December 2015 on nothing is looked up, whatever is set."""
+        lines = [book_runs.index(b"other", month, value) for month, value in ((200501, 1), (201511, 2), (201512, 1_000_000))]
+        for month in (190001, 200412, 201512, 201601, 209912):
+            for before in ((), lines):
+                opened, refusals = fed(self.HEADER, *before, book_runs.loan(7, 9, since=book_runs.made(month)))
+                self.assertEqual((refusals[-1], opened.property_value(opened.taken[-1])), (0, 9))
+        for month, value in ((200501, 9_000_000), (201511, 4_500_000)):
+            opened, refusals = fed(self.HEADER, *lines, book_runs.loan(7, 9, since=book_runs.made(month)))
+            self.assertEqual((refusals[-1], opened.property_value(opened.taken[-1])), (0, value))
+
+    def test_missing(self):
+        """12 where either value is not set, also where they would be equal; another area's values do not serve."""
+        self.assertEqual(self.refusal(self.LOAN), 12)
+        self.assertEqual(self.refusal(self.OWN, self.LOAN), 12)
+        self.assertEqual(self.refusal(self.DECEMBER, self.LOAN), 12)
+        self.assertEqual(self.refusal(self.DECEMBER, self.OWN, self.LOAN), 0)
+        for area in (b"other", b"vancouver"):
+            lines = [line.replace(b"toronto", area) for line in (self.OWN, self.DECEMBER)]
+            self.assertEqual(self.refusal(*lines, self.LOAN), 12)
+            self.assertEqual(self.refusal(*lines, self.LOAN.replace(b"toronto", area)), 0)
+        places = ((b"toronto", 201003), (b"toronto", 201512))
+        said = book.loan_values(forms.read_feeding(self.LOAN))
+        self.assertEqual(house_index.missing(said, {}), list(places))
+        self.assertEqual(house_index.missing(said, {places[0]: 7}), [places[1]])
+
+    def test_second_value(self):
+        """11 for an equal value too; the first stays."""
+        for again in (self.OWN, self.OWN.replace(b"9000", b"9001")):
+            opened, refusals = fed(self.HEADER, self.OWN, again, self.DECEMBER, self.LOAN)
+            self.assertEqual((refusals, opened.other_count, opened.index[b"toronto", 201003]), ([0, 11, 0, 0], 2, 9000))
+        self.assertEqual(self.refusal(self.OWN, self.OWN.replace(b"toronto", b"other")), 0)
+        self.assertEqual(self.refusal(self.OWN, self.OWN.replace(b"201003", b"201004")), 0)
+
+    def test_order_of_refusals(self):
+        none = b"(book (loans 0) (unscored 0) (scores aged) (held 0))"
+        unscored = b"(book (loans 1) (unscored 0) (scores aged) (held 0))"
+        self.assertEqual(self.refusal(self.LOAN, header=none), 5)
+        self.assertEqual(self.refusal(self.LOAN.replace(b"720 7", b"none"), header=unscored), 5)
+        self.assertEqual(self.refusal(self.LOAN.replace(b"(bal 700)", b"(bal 0)"), header=none), 3)
+        full, _ = fed(self.HEADER, self.OWN)
+        full.other_count = book.OTHER_LINES
+        self.assertEqual([full.refusal(line) for line in (self.OWN, self.DECEMBER, self.OWN.replace(b"9000", b"0"))], [8, 8, 3])
+
+    def test_figures(self):
+        """Index lines are no part of any figure."""
+        lines = [b"(asset (amount 100000) (factor 25))", b"(equity 1000)"]
+        with_index, without = (fed(self.HEADER, *before, *lines)[0] for before in ((self.OWN, self.DECEMBER), ()))
+        self.assertEqual(with_index.figures(0, 0), without.figures(0, 0))
+        self.assertEqual((with_index.other_count, without.other_count), (4, 2))
+
+    def test_columns(self):
+        """The columns go by the value so found: 65 over 39 times 15000 / 9000 is 100%, over 60 times that 65%."""
+        for value, column in ((39, 5), (41, 5), (42, 4), (43, 4), (44, 3), (48, 3), (49, 2), (59, 2), (60, 1), (61, 1)):
+            line = book_runs.loan(65, value, b"none", since=book_runs.made(201003, b"toronto"))
+            opened, _ = fed(self.HEADER, self.OWN, self.DECEMBER, line)
+            self.assertEqual(cells.place(opened, opened.taken[-1]), (12, column))
+
+    def test_equal_fractions(self):
+        """The exact amounts depend on value times index over index alone."""
+        plain = fed(self.HEADER, book_runs.loan(150_000, 200_000))[0].exact_requirement()
+        for value, own, december in ((200_000, 100, 100), (100_000, 1, 2), (100_000, 2, 4), (100_000, 500_000, 1_000_000), (400_000, 6, 3)):
+            lines = book_runs.index(b"other", 200501, own), book_runs.index(b"other", 201512, december)
+            opened, refusals = fed(self.HEADER, *lines, book_runs.loan(150_000, value, since=book_runs.made(200501)))
+            self.assertEqual(refusals, [0, 0, 0])
+            self.assertEqual(opened.exact_requirement(), plain)
+
+    def test_another_order(self):
+        """Lines in another order that takes them too."""
+        source = random.Random(4)
+        lines = [self.OWN, self.DECEMBER, self.LOAN, self.LOAN, b"(equity 7)", book_runs.LOAN[:-1]]
+        orders = {tuple(book_runs.another_order(source, lines)) for _ in range(300)}
+        self.assertGreater(len(orders), 30)
+        for order in orders:
+            self.assertEqual(sorted(order), sorted(lines))
+            self.assertFalse(any(fed(self.HEADER, *order)[1]))
 
 
 def changed(numbers, changes):
@@ -239,7 +374,7 @@ class Books(unittest.TestCase):
 
     def test_places_of_cells(self):
         def place(balance, value, score):
-            return cells.place(forms.read_feeding(book_runs.loan(balance, value, score)))
+            return cells.place(book.open_book(book_runs.HEADER[:-1]), forms.read_feeding(book_runs.loan(balance, value, score)))
 
         columns = {64: 1, 65: 1, 66: 2, 80: 2, 81: 3, 90: 3, 91: 4, 95: 4, 96: 5, 100: 5, 101: 5}
         for balance, column in columns.items():

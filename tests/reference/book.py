@@ -3,11 +3,12 @@
 A loan's two numbers are free within a distance, so the report is computed from given sums of them,
 and `sum_bounds` tells which sums are allowed.
 """
+from collections import namedtuple
 from fractions import Fraction
 from functools import lru_cache
 from math import ceil, floor
 
-from . import forms, loan, sheet as sheets
+from . import forms, house_index, loan, sheet as sheets
 from .exponential import combination_bounds
 
 OTHER_LINES = 100_000
@@ -70,7 +71,7 @@ def provision(premium, term, done):
 
 
 def rest_share(form):
-    """What a line that is not a loan adds to the exact sum of `rest`."""
+    """What a line that is not a loan adds to the exact sum of `rest`; of index lines nothing."""
     kind, v = form
     if kind == "asset":
         return v[0] * Fraction(v[1], 10_000)
@@ -108,12 +109,18 @@ def ratio(capital, required):
     return max(-10_000_000, min(10_000_000, floor(Fraction(capital * 15_000, required))))
 
 
+def is_loan(form):
+    return form.kind in ("loan", "loan_unscored")
+
+
+Loan = namedtuple("Loan", "balance value months term score sup since area")  # score is None or (number, age)
+
+
 def loan_values(form):
-    """Balance, value, months, term, score or None, sup of a loan's line."""
+    """What a loan's line says."""
     v = form.values
-    if form.kind == "loan":
-        return v[0], v[1], v[2], v[3], (v[4], v[5]), v[6]
-    return v[0], v[1], v[2], v[3], None, v[4]
+    score, after = ((v[4], v[5]), v[6:]) if form.kind == "loan" else (None, v[4:])
+    return Loan(*v[:4], score, *after)
 
 
 @lru_cache(maxsize=1 << 12)
@@ -131,7 +138,7 @@ def _allowed_numbers(values, distance):
 
 
 class Book:
-    """The header's values, the sheet of credit factors where one is lent, and the forms of the lines taken."""
+    """The header's values, the sheet of credit factors where one is lent, the forms of the lines taken, and the index values they set."""
 
     def __init__(self, loans, unscored, scores, held, sheet=None):
         self.loans = loans
@@ -143,22 +150,39 @@ class Book:
         self.loan_count = 0
         self.unscored_count = 0
         self.other_count = 0
+        self.index = {}  # by area and month
+
+    def _loan_refusal(self, form):
+        if self.loan_count == self.loans or (form.kind == "loan_unscored" and self.unscored_count == self.unscored):
+            return 5
+        return 12 if house_index.missing(loan_values(form), self.index) else 0
+
+    def _other_refusal(self, form):
+        if self.other_count == OTHER_LINES:
+            return 8
+        return 11 if form.kind == "index" and form.values[:2] in self.index else 0
+
+    def _refusal(self, form):
+        """Of what was read of a line: a form, or a number where it is refused for itself."""
+        if isinstance(form, int):
+            return form
+        return self._loan_refusal(form) if is_loan(form) else self._other_refusal(form)
+
+    def refusal(self, line):
+        """0 where the book as it stands would take the line, else its refusal."""
+        return self._refusal(forms.read_feeding(line))
 
     def feed(self, line):
         """0 where the line is taken, else its refusal."""
         form = forms.read_feeding(line)
-        if isinstance(form, int):
-            return form
-        if form.kind in ("loan", "loan_unscored"):
-            scoreless = form.kind == "loan_unscored"
-            if self.loan_count == self.loans or (scoreless and self.unscored_count == self.unscored):
-                return 5
-            self.loan_count += 1
-            self.unscored_count += scoreless
-        else:
-            if self.other_count == OTHER_LINES:
-                return 8
-            self.other_count += 1
+        refusal = self._refusal(form)
+        if refusal:
+            return refusal
+        self.loan_count += is_loan(form)
+        self.unscored_count += form.kind == "loan_unscored"
+        self.other_count += not is_loan(form)
+        if form.kind == "index":
+            self.index[form.values[:2]] = form.values[2]
         self.taken.append(form)
         return 0
 
@@ -168,15 +192,19 @@ class Book:
             return 6
         return 9 if buffer < least else 0
 
+    def property_value(self, form):
+        """The value of a loan taken, as the index has it."""
+        return house_index.property_value(loan_values(form), self.index)
+
     def loan_terms(self, form):
         """What a loan taken is charged on: balance, value, months, term, sup and its credit factor."""
-        balance, value, months, term, score, sup = loan_values(form)
-        m = loan.credit_factor(score, self.aged, self.loans, self.unscored, self.sheet)
-        return balance, value, months, term, sup, m
+        said = loan_values(form)
+        m = loan.credit_factor(said.score, self.aged, self.loans, self.unscored, self.sheet)
+        return said.balance, self.property_value(form), said.months, said.term, said.sup, m
 
     def loan_forms(self):
         """The forms of the loans taken."""
-        return [form for form in self.taken if form.kind in ("loan", "loan_unscored")]
+        return [form for form in self.taken if is_loan(form)]
 
     def number_bounds(self, form, distance):
         """The least and greatest allowed total number of a loan taken, and supplement number."""

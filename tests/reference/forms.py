@@ -1,4 +1,4 @@
-"""The forms of document 01, "A book, line by line", as regular expressions, with their ranges."""
+"""The forms of document 01, "A book, line by line", and of document 02, request L4, as regular expressions, with their ranges."""
 import re
 from collections import namedtuple
 
@@ -7,10 +7,19 @@ S = rb"(0|-?[1-9][0-9]{0,13})"
 MONEY = 100_000_000_000
 LONGEST = 240
 
+# 000, Appendix A, in lower case without accents, hyphens or spaces; `other` is everywhere else.
+AREAS = (
+    b"calgary", b"edmonton", b"halifax", b"hamilton", b"montreal", b"ottawagatineau", b"quebec", b"toronto", b"vancouver",
+    b"victoria", b"winnipeg", b"other",
+)
+
 Form = namedtuple("Form", "kind values")  # values in the order of the line; words as bytes
+Months = namedtuple("Months", "first last")  # a range of months YYYYMM
 
 _ANY = (None, None)
 _WORD = "word"
+FROM = Months(190001, 209912)  # when a loan was made
+INDEX = Months(200501, 201512)  # months of the house price index
 
 
 def _compile(text):
@@ -28,7 +37,9 @@ def _compile(text):
     return re.compile(out)
 
 
-# kind, form, range of each number ("to" starts at 0; money with no bound is at most MONEY either way)
+_AREA = b"|".join(AREAS)
+
+# kind, form, range of each number ("to" starts at 0; money with no bound is at most MONEY either way). A month YYYYMM is read as a D.
 FORMS = [
     (kind, _compile(text), ranges)
     for kind, text, ranges in (
@@ -39,13 +50,13 @@ FORMS = [
         ),
         (
             "loan",
-            b"(loan (bal D) (val D) (amort D) (term D) (score D D) (sup D))",
-            ((1, 200_000_000), (1, 10_000_000_000), (1, 480), (1, 480), (300, 900), (0, 600), (0, 1)),
+            b"(loan (bal D) (val D) (amort D) (term D) (score D D) (sup D) (from D) (area %s))" % _AREA,
+            ((1, 200_000_000), (1, 10_000_000_000), (1, 480), (1, 480), (300, 900), (0, 600), (0, 1), FROM, _WORD),
         ),
         (
             "loan_unscored",
-            b"(loan (bal D) (val D) (amort D) (term D) (score none) (sup D))",
-            ((1, 200_000_000), (1, 10_000_000_000), (1, 480), (1, 480), (0, 1)),
+            b"(loan (bal D) (val D) (amort D) (term D) (score none) (sup D) (from D) (area %s))" % _AREA,
+            ((1, 200_000_000), (1, 10_000_000_000), (1, 480), (1, 480), (0, 1), FROM, _WORD),
         ),
         (
             "policy",
@@ -58,6 +69,7 @@ FORMS = [
             (_WORD, (-MONEY, MONEY), (0, MONEY), (0, 600), (1, 100), (0, 10_000)),
         ),
         ("asset", b"(asset (amount D) (factor D))", ((0, MONEY), (0, 10_000))),
+        ("index", b"(index %s D D)" % _AREA, (_WORD, INDEX, (1, 1_000_000))),
         ("claims", b"(claims D)", ((0, MONEY),)),
         ("lossc", b"(lossc D)", ((0, MONEY),)),
         ("stated", b"(stated D)", ((0, MONEY),)),
@@ -67,6 +79,12 @@ FORMS = [
         ("c", b"(c D)", ((0, MONEY),)),
     )
 ]
+
+
+def _in_range(value, limits):
+    low, high = limits
+    is_month = not isinstance(limits, Months) or 1 <= value % 100 <= 12
+    return is_month and (low is None or low <= value) and (high is None or value <= high)
 
 
 def form_of(line):
@@ -81,10 +99,8 @@ def form_of(line):
             if limits is _WORD:
                 values.append(text)
                 continue
-            value = int(text)
-            low, high = limits
-            in_range &= (low is None or low <= value) and (high is None or value <= high)
-            values.append(value)
+            values.append(int(text))
+            in_range &= _in_range(values[-1], limits)
         return Form(kind, tuple(values)), in_range
     return None
 
@@ -103,7 +119,7 @@ def _read(line, opening):
 
 
 def read_feeding(line):
-    """What feeding reads before the book's own tests (5 and 8): 1, 2, 7, 3, or the form."""
+    """What feeding reads before the book's own tests (5 and 12, or 8 and 11): 1, 2, 7, 3, or the form."""
     return _read(line, opening=False)
 
 

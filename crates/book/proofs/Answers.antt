@@ -3,60 +3,70 @@
 use mathlib.Core.Path.{_≡_, refl, sym, _∙_, ap, ap₂, subst}
 use mathlib.Core.Bool.{Bool, true, false}
 use mathlib.Core.List.{List}
-use Prim.Native.Nat.{ℕ}
+use Prim.Native.Nat.{ℕ, _+_}
 use native.Mathlib.Omega.{arith}
 use lib.Dec.{eqb}
+use lib.ListN.{set}
 use Rattle.exact.specs.Choice.{pick}
 use Rattle.loan_charge.specs.CreditFactor.{builtInRates, ratesOf}
 use Rattle.sheet.specs.Sheet.{sheetPasses}
-use Rattle.line_forms.specs.declared.Content.the-variants.{Loan as loan}
+use Rattle.line_forms.specs.declared.Content.the-variants.{Loan as loan, Index as indexContent}
 use Rattle.line_forms.specs.declared.Header.{Header}
 use Rattle.line_forms.specs.declared.HeaderLine.{HeaderLine}
 use Rattle.line_forms.specs.declared.HeaderLine.the-variants.{Header as HeaderRead, Refusal as HeaderRefusal}
+use Rattle.line_forms.specs.declared.IndexValue.{IndexValue}
 use Rattle.line_forms.specs.declared.Loan.{Loan}
 use Rattle.line_forms.specs.declared.Line.{Line}
-use Rattle.line_forms.specs.declared.Line.the-variants.{Loan as LoanLine, Refusal}
+use Rattle.line_forms.specs.declared.Line.the-variants.{Loan as LoanLine, Index as IndexLine, Refusal}
 use Rattle.line_forms.specs.Claims.{lineRefusal, lineContent}
 use Rattle.line_forms.specs.Readings.{lineOf, headerOf}
+use Rattle.figures.specs.declared.Counts.{Counts}
 use Rattle.figures.specs.declared.Sums.{Sums}
-use Rattle.figures.specs.Sums.{Bounded, InLimits, plus}
+use Rattle.figures.specs.Sums.{Bounded, InLimits, plus, noSums}
+use Rattle.figures.proofs.SumsLaws.{plus-none}
 use Rattle.cell_report.specs.CellReport.{placeOf}
+use Rattle.book_model.specs.declared.Adjustment.{Adjustment}
 use Rattle.book_model.specs.declared.Book.{Book}
 use Rattle.book_model.specs.declared.Opened.{Opened}
 use Rattle.book_model.specs.declared.Fed.{Fed}
-use Rattle.book_model.specs.Accepted.{loanBeyond, loanRefusal, otherRefusal, refusalFor}
-use Rattle.book_model.specs.Calls.{State, Answer, stateAt, termsIn, openedOf, fedOf, emptyBook, openingFor, opening, refusalIn, bookAfter}
-use Rattle.book_model.specs.Calls.{tableWith, cellsAfter, feedingLine, feeding, SoundBook, Sound}
-use Rattle.book_model.specs.Cells.{loanBand, loanLtv, noCells, withCell, cellsWith, CellsBounded}
+use Rattle.book_model.specs.Accepted.{loanBeyond, loanRefusal, otherRefusal, indexRefusal, refusalFor}
+use Rattle.book_model.specs.Calls.{State, Answer, stateAt, termsIn, basisAt, basisIn, countsOf, openedOf, fedOf, emptyBook, openingFor, opening, refusalIn}
+use Rattle.book_model.specs.Calls.{bookAfter, tableWith, cellsAfter, indexAfter, feedingLine, feeding, SoundBook, Sound}
+use Rattle.book_model.specs.Cells.{loanBand, ltvWith, cellWith, noCells, withCell, cellsWith, CellsBounded}
+use Rattle.book_model.specs.HouseIndex.{adjustmentOf, lacking, placeFor, valuesAt, noIndex, indexWith, indexLine}
 use Rattle.book_model.specs.LineKinds.{a-loan, another, contentKind, kindOf, kindCounts}
-use Rattle.book_model.specs.Ranges.{LoanRanges, Ranged}
-use Rattle.book_model.specs.Share.{share, loanShare}
+use Rattle.book_model.specs.Ranges.{LoanRanges, AdjustmentRanges, CellRanges, Ranged}
+use Rattle.book_model.specs.Share.{share, shareWith, loanShare}
 use Rattle.book_model.specs.Steps.{notOpened, answerWith}
-use Rattle.book_model.specs.Terms.{under}
-use Rattle.book_model.proofs.BoundedShares.{loan-bounded, counted}
+use Rattle.book_model.proofs.Adjustments.{Has, adjustment-ranges}
+use Rattle.book_model.proofs.BoundedShares.{loan-bounded, share-bounded, counted}
 use Rattle.book_model.proofs.Cells.{bounded-wider}
-use Rattle.book_model.proofs.Feeding.{room, book-room, asks, line-bounded, fed-refused, fed-sound, opening-sound}
-use Rattle.book_model.proofs.Near.{rates-chargeable}
+use Rattle.book_model.proofs.Feeding.{room, book-room, asks, table-hundredths, state-chargeable, cell-ranges, fed-refused, fed-sound, opening-sound}
+use Rattle.book_model.proofs.Near.{rates-chargeable, inputs-chargeable, chargeable}
 use Rattle.book_model.proofs.Openings.{sheet-passes, sheet-fails, header-fails}
 use Rattle.book_model.proofs.Ranged.{ranged, ranged-header}
 
--- Opening with a sheet: l is what was read of the line, and the table of cells was cleared.
-module _ (sheet line : List ℕ) {l : HeaderLine} (read : l ≡ headerOf line) {cells : List ℕ} (cleared : cells ≡ noCells) where
+-- Opening with a sheet: l is what was read of the line, and the tables of cells and index values were cleared.
+module _ (sheet line : List ℕ) {l : HeaderLine} (read : l ≡ headerOf line) {cells index : List ℕ} (cleared : cells ≡ noCells) (unset : index ≡ noIndex) where
   -- what opening promises of an answer and the tables
   abbrev Promised : Opened → (rates : List ℕ) → Type 0
   Promised r rates =
       (r ≡ openedOf (opening sheet line)) × ((rates ≡ opening sheet line .state .rates) × ((cells ≡ opening sheet line .state .cells)
-      × Sound (stateAt (r .book) rates cells)))
+      × ((index ≡ opening sheet line .state .index) × Sound (stateAt (r .book) rates cells index))))
 
-  opened-as : {r : Opened} {rates : List ℕ} → record { refusal = r .refusal; state = stateAt (r .book) rates cells } ≡ openingFor sheet l → Promised r rates
+  opened-as : {r : Opened} {rates : List ℕ} → record { refusal = r .refusal; state = stateAt (r .book) rates cells index } ≡ openingFor sheet l →
+      Promised r rates
   opened-as {r} {rates} e =
-      let answer : record { refusal = r .refusal; state = stateAt (r .book) rates cells } ≡ opening sheet line = e ∙ ap (openingFor sheet) read in (
+      let answer : record { refusal = r .refusal; state = stateAt (r .book) rates cells index } ≡ opening sheet line = e ∙ ap (openingFor sheet) read in (
         ap openedOf answer,
         (
           ap (λ (a : Answer). a .state .rates) answer,
           (
             ap (λ (a : Answer). a .state .cells) answer,
-            subst (λ (a : Answer). Sound (a .state)) (sym answer) (opening-sound sheet (headerOf line) (ranged-header line)),
+            (
+              ap (λ (a : Answer). a .state .index) answer,
+              subst (λ (a : Answer). Sound (a .state)) (sym answer) (opening-sound sheet (headerOf line) (ranged-header line)),
+            ),
           ),
         ),
       )
@@ -64,11 +74,11 @@ module _ (sheet line : List ℕ) {l : HeaderLine} (read : l ≡ headerOf line) {
   pub opened : (h : Header) → l ≡ HeaderRead h → {r : Opened} {rates : List ℕ} → r ≡ openedOf (openingFor sheet (HeaderRead h)) →
       rates ≡ openingFor sheet (HeaderRead h) .state .rates → Promised r rates
   opened h e f g =
-      opened-as ((λ i. record { refusal = f i .refusal; state = stateAt (f i .book) (g i) (cleared i) }) ∙ ap (openingFor sheet) (sym e))
+      opened-as ((λ i. record { refusal = f i .refusal; state = stateAt (f i .book) (g i) (cleared i) (unset i) }) ∙ ap (openingFor sheet) (sym e))
 
   pub not-opened : (n : ℕ) → l ≡ HeaderRefusal n → {r : Opened} {rates : List ℕ} → r ≡ notOpened n → rates ≡ builtInRates → Promised r rates
   not-opened n e f g =
-      opened-as ((λ i. record { refusal = f i .refusal; state = stateAt (f i .book) (g i) (cleared i) })
+      opened-as ((λ i. record { refusal = f i .refusal; state = stateAt (f i .book) (g i) (cleared i) (unset i) })
       ∙ sym (header-fails sheet n) ∙ ap (openingFor sheet) (sym e))
 
 -- Opening under a sheet with a header that was read, whether or not the sheet passes.
@@ -87,122 +97,210 @@ module _ (sheet : List ℕ) (h : Header) {test : Bool} (tested : test ≡ sheetP
       let k = sym (sheet-fails sheet h (sym tested ∙ e)) in
       (f ∙ ap openedOf k, g ∙ ap (λ (a : Answer). a .state .rates) k)
 
+-- what feeding a line that was read promises of an answer and the tables
+abbrev pub FedLine : State → Line → Fed → (cells index : List ℕ) → Type 0
+FedLine s l r cells index =
+    (r ≡ fedOf (feedingLine s l)) × ((cells ≡ feedingLine s l .state .cells) × (index ≡ feedingLine s l .state .index))
+
+-- the refusals that a loan and an index value meet in a state
+abbrev pub loanRefusalIn : State → Loan → ℕ
+loanRefusalIn s l = loanRefusal (s .book .header) (countsOf (s .book)) (adjustmentOf (valuesAt (s .index)) l) (l .score)
+
+abbrev pub indexRefusalIn : State → IndexValue → ℕ
+indexRefusalIn s i = indexRefusal (countsOf (s .book)) (valuesAt (s .index) (i .area) (i .month))
+
+-- the counts of a line that is no index value are how its kind counts
+plain-counts : (s : State) (l : Line) → indexLine (lineContent l) ≡ 0 → share (basisIn s) (lineContent l) .counts ≡ kindCounts (kindOf l)
+plain-counts s l z =
+    let c : Counts = share (basisIn s) (lineContent l) .counts in
+    let e : c .other ≡ c .other + indexLine (lineContent l) = omega (arith, z) in
+    (λ i. record { loans = c .loans; unscored = c .unscored; other = e i }) ∙ counted (basisIn s) (lineRefusal l) (lineContent l)
+
 -- Feeding a line: l is what was read of it.
 module _ (s : State) (line : List ℕ) {l : Line} (read : l ≡ lineOf line) (sound : Sound s) where
-  -- what feeding promises of an answer and the table
-  abbrev Promises : Fed → List ℕ → Type 0
-  Promises r cells = (r ≡ fedOf (feeding s line)) × ((cells ≡ feeding s line .state .cells) × Sound (stateAt (r .book) (s .rates) cells))
+  -- what feeding promises of an answer and the tables
+  abbrev Promises : Fed → (cells index : List ℕ) → Type 0
+  Promises r cells index =
+      (r ≡ fedOf (feeding s line)) × ((cells ≡ feeding s line .state .cells) × ((index ≡ feeding s line .state .index)
+      × Sound (stateAt (r .book) (s .rates) cells index)))
 
-  fed-as : {r : Fed} {cells : List ℕ} → record { refusal = r .refusal; state = stateAt (r .book) (s .rates) cells } ≡ feedingLine s l → Promises r cells
-  fed-as {r} {cells} e =
-      let answer : record { refusal = r .refusal; state = stateAt (r .book) (s .rates) cells } ≡ feeding s line = e ∙ ap (feedingLine s) read in (
+  fed-as : {r : Fed} {cells index : List ℕ} → record { refusal = r .refusal; state = stateAt (r .book) (s .rates) cells index } ≡ feedingLine s l →
+      Promises r cells index
+  fed-as {r} {cells} {index} e =
+      let answer : record { refusal = r .refusal; state = stateAt (r .book) (s .rates) cells index } ≡ feeding s line = e ∙ ap (feedingLine s) read in (
         ap fedOf answer,
         (
           ap (λ (a : Answer). a .state .cells) answer,
-          subst (λ (a : Answer). Sound (a .state)) (sym answer) (fed-sound s (lineOf line) sound (ranged line)),
+          (
+            ap (λ (a : Answer). a .state .index) answer,
+            subst (λ (a : Answer). Sound (a .state)) (sym answer) (fed-sound s (lineOf line) sound (ranged line)),
+          ),
         ),
       )
 
-  pub fed : {r : Fed} {cells : List ℕ} → r ≡ fedOf (feedingLine s l) → cells ≡ feedingLine s l .state .cells → Promises r cells
+  pub fed : {r : Fed} {cells index : List ℕ} → FedLine s l r cells index → Promises r cells index
   unfolding feedingLine
-  fed e f = fed-as (λ i. record { refusal = e i .refusal; state = stateAt (e i .book) (s .rates) (f i) })
+  fed (e, (f, g)) = fed-as (λ i. record { refusal = e i .refusal; state = stateAt (e i .book) (s .rates) (f i) (g i) })
 
-  pub not-fed : (n : ℕ) → l ≡ Refusal n → Promises (record { refusal = n; book = s .book }) (s .cells)
+  pub not-fed : (n : ℕ) → l ≡ Refusal n → Promises (record { refusal = n; book = s .book }) (s .cells) (s .index)
   not-fed n e = fed-as (fed-refused s n ∙ ap (feedingLine s) (sym e))
 
 -- a table of which neither case changes a place
-same-either : (test : Bool) (cells : List ℕ) → cells ≡ pick test cells cells
-same-either true cells = refl
-same-either false cells = refl
+same-either : (test : Bool) (table : List ℕ) → table ≡ pick test table table
+same-either true table = refl
+same-either false table = refl
 
 -- Feeding what was read: a line l of the kind k, with its share.
 module _ (s : State) {read : Line} where
-  pub loan-fed : (l : Loan) → read ≡ LoanLine l → {r : Fed} {cells : List ℕ} →
-      r ≡ answerWith (loanRefusal (s .book .header) (s .book .sums .counts) (l .score)) (s .book) (loanShare (termsIn s) l) →
-      cells ≡ tableWith (loanRefusal (s .book .header) (s .book .sums .counts) (l .score)) (termsIn s) (loan l) (s .cells) →
-      (r ≡ fedOf (feedingLine s read)) × (cells ≡ feedingLine s read .state .cells)
-  unfolding feedingLine bookAfter cellsAfter refusalFor contentKind share
-  loan-fed l e k m = (
-    k ∙ ap (λ (x : Line). fedOf (feedingLine s x)) (sym e),
-    m ∙ ap (λ (x : Line). feedingLine s x .state .cells) (sym e),
-  )
-
-  -- a line that leaves the table as it is
-  pub cells-stay : (l : Line) → cellsWith (termsIn s) (lineContent l) (s .cells) ≡ s .cells → read ≡ l → s .cells ≡ feedingLine s read .state .cells
+  -- a line that leaves a table as it is
+  pub cells-stay : (l : Line) → cellsWith (basisIn s) (lineContent l) (s .cells) ≡ s .cells → read ≡ l → s .cells ≡ feedingLine s read .state .cells
   unfolding feedingLine cellsAfter
   cells-stay l k e =
       same-either (eqb (refusalIn s l) 0) (s .cells)
       ∙ ap (λ (x : List ℕ). pick (eqb (refusalIn s l) 0) x (s .cells)) (sym k)
       ∙ ap (λ (x : Line). feedingLine s x .state .cells) (sym e)
 
-  module _ (l : Line) (other : kindOf l ≡ another) (e : read ≡ l) {x : Sums} (k : x ≡ share (termsIn s) (lineContent l)) where
-    pub other-asked : Sound s → Ranged (lineContent read) → SoundBook (s .book) × Bounded x × (x .counts ≡ kindCounts another)
-    other-asked h r =
-        let b : Bounded (share (termsIn s) (lineContent l)) =
-        line-bounded (s .book .header) (h .rates) (lineContent l) (subst (λ (y : Line). Ranged (lineContent y)) e r) in
-        (h .book, rw k b, ap (λ (y : Sums). y .counts) k ∙ counted (termsIn s) (lineRefusal l) (lineContent l) ∙ ap kindCounts other)
+  index-stays : (l : Line) → indexWith (lineContent l) (s .index) ≡ s .index → read ≡ l → s .index ≡ feedingLine s read .state .index
+  unfolding feedingLine indexAfter
+  index-stays l k e =
+      same-either (eqb (refusalIn s l) 0) (s .index)
+      ∙ ap (λ (x : List ℕ). pick (eqb (refusalIn s l) 0) x (s .index)) (sym k)
+      ∙ ap (λ (x : Line). feedingLine s x .state .index) (sym e)
 
-    pub other-fed : cellsWith (termsIn s) (lineContent l) (s .cells) ≡ s .cells → {r : Fed} →
-        r ≡ answerWith (otherRefusal (s .book .sums .counts)) (s .book) x → (r ≡ fedOf (feedingLine s read)) × (s .cells ≡ feedingLine s read .state .cells)
+  pub loan-fed : (l : Loan) → read ≡ LoanLine l → {r : Fed} {cells : List ℕ} →
+      r ≡ answerWith (loanRefusalIn s l) (s .book) (loanShare (basisIn s) l) 0 →
+      cells ≡ tableWith (loanRefusalIn s l) (basisIn s) (loan l) (s .cells) → FedLine s read r cells (s .index)
+  unfolding feedingLine bookAfter cellsAfter refusalFor contentKind share indexWith
+  loan-fed l e k m = (
+    k ∙ ap (λ (x : Line). fedOf (feedingLine s x)) (sym e),
+    (m ∙ ap (λ (x : Line). feedingLine s x .state .cells) (sym e), index-stays (LoanLine l) refl e),
+  )
+
+  pub index-fed : (i : IndexValue) → read ≡ IndexLine i → {r : Fed} {table : List ℕ} →
+      r ≡ answerWith (indexRefusalIn s i) (s .book) noSums 1 →
+      table ≡ pick (eqb (indexRefusalIn s i) 0) (indexWith (indexContent i) (s .index)) (s .index) → FedLine s read r (s .cells) table
+  unfolding feedingLine bookAfter cellsWith indexAfter refusalFor contentKind share
+  index-fed i e k m = (
+    k ∙ ap (λ (x : Line). fedOf (feedingLine s x)) (sym e),
+    (cells-stay (IndexLine i) refl e, m ∙ ap (λ (x : Line). feedingLine s x .state .index) (sym e)),
+  )
+
+  module _ (l : Line) (other : kindOf l ≡ another) (e : read ≡ l) {x : Sums} (k : x ≡ share (basisIn s) (lineContent l)) where
+    pub other-asked : Has (valuesAt (s .index)) (lineContent l) → indexLine (lineContent l) ≡ 0 → Sound s → Ranged (lineContent read) →
+        SoundBook (s .book) × Bounded x × (x .counts ≡ kindCounts another)
+    other-asked has z h r =
+        let b : Bounded (share (basisIn s) (lineContent l)) =
+        share-bounded (state-chargeable s h) (lineContent l) (subst (λ (y : Line). Ranged (lineContent y)) e r) has in
+        (h .book, rw k b, rw k (plain-counts s l z ∙ ap kindCounts other))
+
+    pub other-fed : cellsWith (basisIn s) (lineContent l) (s .cells) ≡ s .cells → indexWith (lineContent l) (s .index) ≡ s .index →
+        indexLine (lineContent l) ≡ 0 → {r : Fed} → r ≡ answerWith (otherRefusal (countsOf (s .book))) (s .book) x 0 →
+        FedLine s read r (s .cells) (s .index)
     unfolding feedingLine bookAfter refusalFor
-    other-fed n m = (
-      m ∙ ap (answerWith (otherRefusal (s .book .sums .counts)) (s .book)) k
-          ∙ ap (λ (y : ℕ). answerWith y (s .book) (share (termsIn s) (lineContent l))) (sym (ap (refusalFor (termsIn s) (s .book .sums .counts)) other))
+    other-fed n o z m = (
+      m ∙ ap₂ (λ (y : Sums) (i : ℕ). answerWith (otherRefusal (countsOf (s .book))) (s .book) y i) k (sym z)
+          ∙ ap (λ (y : ℕ). answerWith y (s .book) (share (basisIn s) (lineContent l)) (indexLine (lineContent l)))
+          (sym (ap (refusalFor (basisIn s) (countsOf (s .book))) other))
           ∙ ap (λ (y : Line). fedOf (feedingLine s y)) (sym e),
-      cells-stay l n e,
+      (cells-stay l n e, index-stays l o e),
     )
 
 -- Adding a line that a test refuses with the number n, or does not.
 module _ (test : Bool) (n : ℕ) (b : Book) (x : Sums) where
-  pub refused-with : eqb n 0 ≡ false → test ≡ true → record { refusal = n; book = b } ≡ answerWith (pick test n 0) b x
+  pub refused-with : eqb n 0 ≡ false → test ≡ true → record { refusal = n; book = b } ≡ answerWith (pick test n 0) b x 0
   refused-with z e = rw (e, z) refl
 
-  pub taken-with : test ≡ false → {r : Fed} → r ≡ answerWith 0 b x → r ≡ answerWith (pick test n 0) b x
+  pub taken-with : test ≡ false → {r : Fed} → r ≡ answerWith 0 b x 0 → r ≡ answerWith (pick test n 0) b x 0
   taken-with e k = rw e k
 
--- Adding a loan, whether or not it is beyond the header's counts.
-module _ (s : State) (l : Loan) {beyond : Bool} (test : beyond ≡ loanBeyond (s .book .header) (s .book .sums .counts) (l .score)) where
+-- Adding a loan: it may be beyond the header's counts, or lack an index value.
+module _ (s : State) (l : Loan) {beyond : Bool} (test : beyond ≡ loanBeyond (s .book .header) (countsOf (s .book)) (l .score)) where
   -- what adding a loan promises of an answer and the table
   abbrev Adds : Fed → List ℕ → Type 0
   Adds r cells =
-      (r ≡ answerWith (loanRefusal (s .book .header) (s .book .sums .counts) (l .score)) (s .book) (loanShare (termsIn s) l))
-      × (cells ≡ tableWith (loanRefusal (s .book .header) (s .book .sums .counts) (l .score)) (termsIn s) (loan l) (s .cells))
+      (r ≡ answerWith (loanRefusalIn s l) (s .book) (loanShare (basisIn s) l) 0)
+      × (cells ≡ tableWith (loanRefusalIn s l) (basisIn s) (loan l) (s .cells))
+
+  -- answered by a number
+  numbered : (n : ℕ) → eqb n 0 ≡ false → loanRefusalIn s l ≡ n → Adds (record { refusal = n; book = s .book }) (s .cells)
+  numbered n z e = (rw (e, z) refl, rw (e, z) refl)
 
   pub loan-refused : beyond ≡ true → Adds (record { refusal = 5; book = s .book }) (s .cells)
   loan-refused e =
-      let f : loanBeyond (s .book .header) (s .book .sums .counts) (l .score) ≡ true = sym test ∙ e in
-      (refused-with (loanBeyond (s .book .header) (s .book .sums .counts) (l .score)) 5 (s .book) (loanShare (termsIn s) l) refl f, rw f refl)
+      let f : loanBeyond (s .book .header) (countsOf (s .book)) (l .score) ≡ true = sym test ∙ e in
+      numbered 5 refl (rw f refl)
 
-  module _ (e : beyond ≡ false) {x : Sums} (k : x ≡ loanShare (termsIn s) l) where
-    pub loan-asks : Sound s → LoanRanges l → Bounded (s .book .sums) × Bounded x × InLimits (plus (s .book .sums) x)
-    unfolding share loanShare refusalFor
-    loan-asks h r =
-        let f : loanBeyond (s .book .header) (s .book .sums .counts) (l .score) ≡ false = sym test ∙ e in
-        rw k
-        (asks (h .book) (line-bounded (s .book .header) (h .rates) (loan l) r)
-        (room (termsIn s) (s .book .sums .counts) (a-loan (l .score)) (book-room (h .book)) (rw f refl)))
+  module _ (e : beyond ≡ false) {a : Adjustment} (found : a ≡ adjustmentOf (valuesAt (s .index)) l) {lacks : Bool} (tested : lacks ≡ lacking a) where
+    pub loan-lacks : lacks ≡ true → Adds (record { refusal = 12; book = s .book }) (s .cells)
+    loan-lacks g =
+        let f : loanBeyond (s .book .header) (countsOf (s .book)) (l .score) ≡ false = sym test ∙ e in
+        let h : lacking (adjustmentOf (valuesAt (s .index)) l) ≡ true = ap lacking (sym found) ∙ sym tested ∙ g in
+        numbered 12 refl (rw (f, h) refl)
 
-    -- what adding it to its cell asks
-    pub cell-asks : Sound s → LoanRanges l → CellsBounded (s .cells) 4000000 × Bounded x × (x .counts .loans ≡ 1)
-    unfolding loanShare kindCounts
-    cell-asks h r = (
-      bounded-wider (s .cells) (omega (arith, h .book .loans, h .book .header-loans)) (h .cells),
-      rw k (loan-bounded (rates-chargeable (termsIn s) (h .rates)) l r),
-      rw k refl,
-    )
+    module _ (g : lacks ≡ false) where
+      has : lacking (adjustmentOf (valuesAt (s .index)) l) ≡ false
+      has = ap lacking (sym found) ∙ sym tested ∙ g
 
-    pub loan-taken : {place : ℕ} → place ≡ placeOf (loanBand l) (loanLtv l) → {r : Fed} {cells : List ℕ} → r ≡ answerWith 0 (s .book) x →
-        cells ≡ withCell (s .cells) place (record { count = 1; balance = l .balance; charge = x .total }) → Adds r cells
-    unfolding loanShare cellsWith
-    loan-taken p {r} {cells} m n =
-        let f : loanBeyond (s .book .header) (s .book .sums .counts) (l .score) ≡ false = sym test ∙ e in (
-          taken-with (loanBeyond (s .book .header) (s .book .sums .counts) (l .score)) 5 (s .book) (loanShare (termsIn s) l) f (m
-              ∙ ap (answerWith 0 (s .book)) k),
-          rw f (n ∙ ap₂ (λ (at : ℕ) (y : Sums). withCell (s .cells) at (record { count = 1; balance = l .balance; charge = y .total })) p k),
+      pub ranges : Sound s → AdjustmentRanges a
+      ranges h = rw found (adjustment-ranges (table-hundredths (h .index)) l has)
+
+      not-refused : loanRefusalIn s l ≡ 0
+      not-refused =
+          let f : loanBeyond (s .book .header) (countsOf (s .book)) (l .score) ≡ false = sym test ∙ e in
+          rw (f, has) refl
+
+      module _ {x : Sums} (k : x ≡ shareWith (termsIn s) a l) where
+        share-is : x ≡ loanShare (basisIn s) l
+        share-is = k ∙ ap (λ (y : Adjustment). shareWith (termsIn s) y l) found
+
+        pub loan-asks : Sound s → LoanRanges l → Bounded (s .book .sums) × Bounded x × InLimits (plus (s .book .sums) x)
+        unfolding shareWith refusalFor kindCounts
+        loan-asks h r =
+            rw share-is
+            (asks 0 (h .book) (loan-bounded (termsIn s) (adjustmentOf (valuesAt (s .index)) l) l (chargeable (state-chargeable s h) l r has))
+            (room (basisIn s) (countsOf (s .book)) (a-loan l) (book-room (h .book)) not-refused))
+
+        -- what adding it to its cell asks
+        pub cell-asks : Sound s → LoanRanges l → CellsBounded (s .cells) 4000000 × CellRanges (record { count = 1; balance = l .balance; charge = x .total })
+        unfolding shareWith
+        cell-asks h r = (
+          bounded-wider (s .cells) (omega (arith, h .book .loans, h .book .header-loans)) (h .cells),
+          rw k (cell-ranges (termsIn s) a l r
+              (inputs-chargeable (termsIn s) a l (rates-chargeable (termsIn s) (h .rates) (l .score)) r (ranges h))),
+        )
+
+        pub loan-taken : {place : ℕ} → place ≡ placeOf (loanBand l) (ltvWith a l) → {r : Fed} {cells : List ℕ} → r ≡ answerWith 0 (s .book) x 0 →
+            cells ≡ withCell (s .cells) place (record { count = 1; balance = l .balance; charge = x .total }) → Adds r cells
+        unfolding shareWith cellsWith
+        loan-taken p {r} {cells} m n = (
+          rw not-refused (m ∙ ap (λ (y : Sums). answerWith 0 (s .book) y 0) share-is),
+          rw not-refused
+              (n ∙ ap₂ (λ (at : ℕ) (y : Sums). withCell (s .cells) at (record { count = 1; balance = l .balance; charge = y .total })) p k
+              ∙ ap (λ (y : Adjustment). withCell (s .cells) (placeOf (loanBand l) (ltvWith y l)) (cellWith (termsIn s) y l)) found),
         )
 
 -- what adding another line within the limit asks
-pub other-asks : (b : Book) (x : Sums) → SoundBook b → Bounded x → x .counts ≡ kindCounts another → otherRefusal (b .sums .counts) ≡ 0 → Bounded (b .sums)
+pub other-asks : (b : Book) (x : Sums) → SoundBook b → Bounded x → x .counts ≡ kindCounts another → otherRefusal (countsOf b) ≡ 0 → Bounded (b .sums)
     × Bounded x × InLimits (plus (b .sums) x)
-unfolding refusalFor
-other-asks b x h k c e = asks h k (rw c (room (under (b .header) builtInRates) (b .sums .counts) another (book-room h) e))
+unfolding refusalFor kindCounts
+other-asks b x h k c e =
+    asks 0 h k (rw c (room (basisAt (b .header) builtInRates noIndex) (countsOf b) another (book-room h) e))
+
+-- Adding an index value: the book may be full, or have one for its area and month.
+module _ (b : Book) (table : List ℕ) (i : IndexValue) where
+  abbrev refusal : ℕ
+  refusal = indexRefusal (countsOf b) (valuesAt table (i .area) (i .month))
+
+  abbrev AddsIndex : Fed → List ℕ → Type 0
+  AddsIndex r after = (r ≡ answerWith refusal b noSums 1) × (after ≡ pick (eqb refusal 0) (indexWith (indexContent i) table) table)
+
+  pub index-refused : (n : ℕ) → eqb n 0 ≡ false → refusal ≡ n → AddsIndex (record { refusal = n; book = b }) table
+  index-refused n z e = (rw (e, z) refl, rw (e, z) refl)
+
+  pub index-taken : refusal ≡ 0 → {after : List ℕ} → after ≡ set table (placeFor (i .area) (i .month)) (i .value) →
+      AddsIndex (record { refusal = 0; book = record { header = b .header; sums = b .sums; indexed = b .indexed + 1 } }) after
+  unfolding indexWith
+  index-taken e k = (
+    rw e (λ j. record { refusal = 0; book = record { header = b .header; sums = sym (plus-none (b .sums)) j; indexed = b .indexed + 1 } }),
+    rw e k,
+  )

@@ -1,22 +1,26 @@
 // Opening, feeding and closing a book (document 01, "A book, line by line").
 ghost use mathlib.Core.Path.{_≡_};
 ghost use Prim.Native.Nat.{_≤_};
+ghost use lib.Dec.{eqb, leb};
 ghost use lib.ListN.{length};
+ghost use Rattle.exact.specs.Choice.{pick};
 ghost use Rattle.loan_charge.specs.Tables.{exponentials};
 ghost use Rattle.loan_charge.specs.CreditFactor.{builtInSheet, builtInRates};
 ghost use Rattle.line_forms.specs.declared.HeaderLine.the-variants.{Header as HeaderRead};
-ghost use Rattle.line_forms.specs.declared.Content.the-variants.{Loan as loan};
+ghost use Rattle.line_forms.specs.declared.Content.the-variants.{Loan as loan, Index as indexContent};
 ghost use Rattle.line_forms.specs.Claims.{lineContent};
-ghost use Rattle.figures.specs.Sums.{Bounded, InLimits, plus};
+ghost use Rattle.figures.specs.Sums.{Bounded, InLimits, plus, noSums};
 ghost use Rattle.report.specs.Line.{Written};
-ghost use Rattle.book_model.specs.Accepted.{loanBeyond, loanRefusal, otherRefusal};
-ghost use Rattle.book_model.specs.Calls.{stateAt, openedOf, fedOf, emptyBook, openingFor, opening, tableWith, feedingLine, feeding, SoundBook, Sound};
+ghost use Rattle.book_model.specs.Accepted.{mostOther, loanBeyond, loanRefusal, otherRefusal, indexRefusal};
+ghost use Rattle.book_model.specs.Calls.{stateAt, basisAt, countsOf, openedOf, fedOf, emptyBook, openingFor, opening, tableWith, feedingLine, feeding};
+ghost use Rattle.book_model.specs.Calls.{SoundBook, Sound};
 ghost use Rattle.book_model.specs.Calls.{closingRefusal, reportSize, reportOf, closing, closed, closingCells, closedCells};
+ghost use Rattle.book_model.specs.HouseIndex.{adjustmentOf, valuesAt, indexWith};
 ghost use Rattle.book_model.specs.LineKinds.{another, kindCounts};
-ghost use Rattle.book_model.specs.Ranges.{Ranged, LoanRanges};
+ghost use Rattle.book_model.specs.Ranges.{Ranged, LoanRanges, IndexRanges};
 ghost use Rattle.book_model.specs.Share.{loanShare};
 ghost use Rattle.book_model.specs.Steps.{notOpened, answerWith};
-ghost use Rattle.book_model.specs.Terms.{under, zeroHeader};
+ghost use Rattle.book_model.specs.Terms.{zeroHeader};
 use book_model::Book;
 use book_model::Closed;
 use book_model::Fed;
@@ -25,8 +29,10 @@ use cell_report::Cell;
 use cell_report::Cells;
 use figures::Counts;
 use figures::Sums;
+use house_index::Index;
 use line_forms::Header;
 use line_forms::HeaderLine;
+use line_forms::IndexValue;
 use line_forms::Line;
 use line_forms::Loan;
 use loan_charge::Score;
@@ -49,6 +55,7 @@ fn empty(header: Header) -> Book
     Book {
         header,
         sums: figures::none(),
+        indexed: 0,
     }
 }
 
@@ -90,15 +97,23 @@ fn open_under(header: Header, sheet: &[u64], rates: &mut Rates) -> Opened
     refused(10, rates)
 }
 
-// A header line and a lent sheet of factors open a book (02, L3). The table of rates and the table of cells are lent with it from here on:
-// the rates become the sheet's, or the regulator's where the opening is refused, and the cells are cleared.
-pub fn open_sheet(line: &[u8], sheet: &[u64], rates: &mut Rates, cells: &mut Cells) -> Opened
+// A header line and a lent sheet of factors open a book (02, L3). The tables of rates, cells and index values are lent with it from here on:
+// the rates become the sheet's, or the regulator's where the opening is refused, and the other two are cleared.
+pub fn open_sheet(
+    line: &[u8],
+    sheet: &[u64],
+    rates: &mut Rates,
+    cells: &mut Cells,
+    index: &mut Index,
+) -> Opened
     ensures equation { λ r. ⌜ r ≡ openedOf (opening (now (sheet .entry)) (now (line .entry))) ⌝ }
     ensures rates { λ r. ⌜ now (rates .exit) ≡ opening (now (sheet .entry)) (now (line .entry)) .state .rates ⌝ }
     ensures cells { λ r. ⌜ now (cells .exit) ≡ opening (now (sheet .entry)) (now (line .entry)) .state .cells ⌝ }
-    ensures sound { λ r. ⌜ Sound (stateAt (r .book) (now (rates .exit)) (now (cells .exit))) ⌝ }
+    ensures index { λ r. ⌜ now (index .exit) ≡ opening (now (sheet .entry)) (now (line .entry)) .state .index ⌝ }
+    ensures sound { λ r. ⌜ Sound (stateAt (r .book) (now (rates .exit)) (now (cells .exit)) (now (index .exit))) ⌝ }
 {
     cells::clear(cells);
+    house_index::clear(index);
     let read = line_reading::read_header(line);
     match read {
         HeaderLine::Header(header) => open_under(header, sheet, rates),
@@ -107,35 +122,48 @@ pub fn open_sheet(line: &[u8], sheet: &[u64], rates: &mut Rates, cells: &mut Cel
 }
 
 // A header line opens a book under the regulator's table.
-pub fn open(line: &[u8], rates: &mut Rates, cells: &mut Cells) -> Opened
+pub fn open(line: &[u8], rates: &mut Rates, cells: &mut Cells, index: &mut Index) -> Opened
     ensures equation { λ r. ⌜ r ≡ openedOf (opening builtInSheet (now (line .entry))) ⌝ }
     ensures rates { λ r. ⌜ now (rates .exit) ≡ opening builtInSheet (now (line .entry)) .state .rates ⌝ }
     ensures cells { λ r. ⌜ now (cells .exit) ≡ opening builtInSheet (now (line .entry)) .state .cells ⌝ }
-    ensures sound { λ r. ⌜ Sound (stateAt (r .book) (now (rates .exit)) (now (cells .exit))) ⌝ }
+    ensures index { λ r. ⌜ now (index .exit) ≡ opening builtInSheet (now (line .entry)) .state .index ⌝ }
+    ensures sound { λ r. ⌜ Sound (stateAt (r .book) (now (rates .exit)) (now (cells .exit)) (now (index .exit))) ⌝ }
 {
     let sheet = sheet::built_in();
-    open_sheet(line, &sheet, rates, cells)
+    open_sheet(line, &sheet, rates, cells, index)
 }
 
 // A book with a line's share added.
 fn with_share(b: Book, share: Sums) -> Fed
     requires { ⌜ Bounded (b .sums) × Bounded share × InLimits (plus (b .sums) share) ⌝ }
-    ensures { λ r. ⌜ r ≡ answerWith 0 b share ⌝ }
+    ensures { λ r. ⌜ r ≡ answerWith 0 b share 0 ⌝ }
 {
     let header = b.header;
     let before = b.sums;
-    let sums = figures::add(before, share);
-    let book = Book { header, sums };
+    let after = figures::add(before, share);
+    let book = Book {
+        header,
+        sums: after,
+        indexed: b.indexed,
+    };
     Fed { refusal: 0, book }
 }
 
-// A line that is not a loan.
-fn add_other(b: Book, share: Sums) -> Fed
-    requires { ⌜ SoundBook b × Bounded share × (share .counts ≡ kindCounts another) ⌝ }
-    ensures { λ r. ⌜ r ≡ answerWith (otherRefusal (b .sums .counts)) b share ⌝ }
+// Whether so many lines that are not loans are taken that no more are: index lines count among them.
+fn is_full(b: Book) -> bool
+    requires { ⌜ SoundBook b ⌝ }
+    ensures { λ r. ⌜ r ≡ leb mostOther (countsOf b .other) ⌝ }
 {
     let sums = b.sums;
-    if MOST_OTHER <= sums.counts.other {
+    MOST_OTHER <= sums.counts.other + b.indexed
+}
+
+// A line that is neither a loan nor an index value.
+fn add_other(b: Book, share: Sums) -> Fed
+    requires { ⌜ SoundBook b × Bounded share × (share .counts ≡ kindCounts another) ⌝ }
+    ensures { λ r. ⌜ r ≡ answerWith (otherRefusal (countsOf b)) b share 0 ⌝ }
+{
+    if is_full(b) {
         return Fed {
             refusal: 8,
             book: b,
@@ -151,13 +179,55 @@ fn loan_beyond(h: Header, counts: Counts, score: Score) -> bool
     (h.loans <= counts.loans) | ((shares::unscored(score) == 1) & (h.unscored <= counts.unscored))
 }
 
-fn add_loan(b: Book, exps: &Exponentials, rates: &Rates, cells: &mut Cells, l: Loan) -> Fed
-    requires { ⌜ Sound (stateAt b (now rates) (now cells)) × LoanRanges l × (now exps ≡ exponentials) ⌝ }
+// An index value.
+fn add_index(b: Book, index: &mut Index, i: IndexValue) -> Fed
+    requires { ⌜ SoundBook b × IndexRanges i ⌝ }
+    ensures equation { λ r. ⌜ r ≡ answerWith (indexRefusal (countsOf b) (valuesAt (now (index .entry)) (i .area) (i .month))) b noSums 1 ⌝ }
+    ensures index { λ r.
+        ⌜ now (index .exit) ≡
+        pick (eqb (indexRefusal (countsOf b) (valuesAt (now (index .entry)) (i .area) (i .month))) 0) (indexWith (indexContent i) (now (index .entry)))
+        (now (index .entry)) ⌝ }
+{
+    if is_full(b) {
+        return Fed {
+            refusal: 8,
+            book: b,
+        };
+    }
+    if house_index::before(index, i) != 0 {
+        return Fed {
+            refusal: 11,
+            book: b,
+        };
+    }
+    house_index::set(index, i);
+    let header = b.header;
+    let sums = b.sums;
+    let book = Book {
+        header,
+        sums,
+        indexed: b.indexed + 1,
+    };
+    Fed { refusal: 0, book }
+}
+
+fn add_loan(
+    b: Book,
+    exps: &Exponentials,
+    rates: &Rates,
+    cells: &mut Cells,
+    index: &Index,
+    l: Loan,
+) -> Fed
+    requires { ⌜ Sound (stateAt b (now rates) (now cells) (now index)) × LoanRanges l × (now exps ≡ exponentials) ⌝ }
     ensures equation { λ r.
-        ⌜ r ≡ answerWith (loanRefusal (b .header) (b .sums .counts) (l .score)) b (loanShare (under (b .header) (now (rates .entry))) l) ⌝ }
+        ⌜ r ≡
+        answerWith (loanRefusal (b .header) (countsOf b) (adjustmentOf (valuesAt (now (index .entry))) l) (l .score)) b
+        (loanShare (basisAt (b .header) (now (rates .entry)) (now (index .entry))) l) 0 ⌝ }
     ensures cells { λ r.
         ⌜ now (cells .exit) ≡
-        tableWith (loanRefusal (b .header) (b .sums .counts) (l .score)) (under (b .header) (now (rates .entry))) (loan l) (now (cells .entry)) ⌝ }
+        tableWith (loanRefusal (b .header) (countsOf b) (adjustmentOf (valuesAt (now (index .entry))) l) (l .score))
+        (basisAt (b .header) (now (rates .entry)) (now (index .entry))) (loan l) (now (cells .entry)) ⌝ }
 {
     let header = b.header;
     let sums = b.sums;
@@ -168,8 +238,15 @@ fn add_loan(b: Book, exps: &Exponentials, rates: &Rates, cells: &mut Cells, l: L
             book: b,
         };
     }
-    let place = cells::place_of(l);
-    let share = shares::loan(header, l, exps, rates);
+    let a = house_index::adjustment(l, index);
+    if house_index::is_lacking(a) {
+        return Fed {
+            refusal: 12,
+            book: b,
+        };
+    }
+    let place = cells::place_of(l, a);
+    let share = shares::loan(header, l, a, exps, rates);
     let charge = share.total;
     let cell = Cell {
         count: 1,
@@ -181,13 +258,23 @@ fn add_loan(b: Book, exps: &Exponentials, rates: &Rates, cells: &mut Cells, l: L
 }
 
 // A line that was read.
-fn feed_line(b: Book, exps: &Exponentials, rates: &Rates, cells: &mut Cells, line: Line) -> Fed
-    requires { ⌜ Sound (stateAt b (now rates) (now cells)) × Ranged (lineContent line) × (now exps ≡ exponentials) ⌝ }
-    ensures equation { λ r. ⌜ r ≡ fedOf (feedingLine (stateAt b (now (rates .entry)) (now (cells .entry))) line) ⌝ }
-    ensures cells { λ r. ⌜ now (cells .exit) ≡ feedingLine (stateAt b (now (rates .entry)) (now (cells .entry))) line .state .cells ⌝ }
+fn feed_line(
+    b: Book,
+    exps: &Exponentials,
+    rates: &Rates,
+    cells: &mut Cells,
+    index: &mut Index,
+    line: Line,
+) -> Fed
+    requires { ⌜ Sound (stateAt b (now rates) (now cells) (now index)) × Ranged (lineContent line) × (now exps ≡ exponentials) ⌝ }
+    ensures equation { λ r. ⌜ r ≡ fedOf (feedingLine (stateAt b (now (rates .entry)) (now (cells .entry)) (now (index .entry))) line) ⌝ }
+    ensures cells { λ r.
+        ⌜ now (cells .exit) ≡ feedingLine (stateAt b (now (rates .entry)) (now (cells .entry)) (now (index .entry))) line .state .cells ⌝ }
+    ensures index { λ r.
+        ⌜ now (index .exit) ≡ feedingLine (stateAt b (now (rates .entry)) (now (cells .entry)) (now (index .entry))) line .state .index ⌝ }
 {
     match line {
-        Line::Loan(l) => add_loan(b, exps, rates, cells, l),
+        Line::Loan(l) => add_loan(b, exps, rates, cells, index, l),
         Line::Policy(p) => {
             let class = p.class;
             add_other(b, shares::policy(class, p.premium, p.term, p.completed))
@@ -199,33 +286,47 @@ fn feed_line(b: Book, exps: &Exponentials, rates: &Rates, cells: &mut Cells, lin
             let x = a.amount;
             add_other(b, shares::amount(item, x))
         }
+        Line::Index(i) => add_index(b, index, i),
         Line::Refusal(refusal) => Fed { refusal, book: b },
     }
 }
 
 // A line is fed to a book, with the constant table lent too: for loops, since a constant array would be stored whole at every use.
-pub fn feed_with(b: Book, exps: &Exponentials, rates: &Rates, cells: &mut Cells, line: &[u8]) -> Fed
-    requires { ⌜ Sound (stateAt b (now rates) (now cells)) × (now exps ≡ exponentials) ⌝ }
-    ensures equation { λ r. ⌜ r ≡ fedOf (feeding (stateAt b (now (rates .entry)) (now (cells .entry))) (now (line .entry))) ⌝ }
-    ensures cells { λ r. ⌜ now (cells .exit) ≡ feeding (stateAt b (now (rates .entry)) (now (cells .entry))) (now (line .entry)) .state .cells ⌝ }
-    ensures sound { λ r. ⌜ Sound (stateAt (r .book) (now (rates .entry)) (now (cells .exit))) ⌝ }
+pub fn feed_with(
+    b: Book,
+    exps: &Exponentials,
+    rates: &Rates,
+    cells: &mut Cells,
+    index: &mut Index,
+    line: &[u8],
+) -> Fed
+    requires { ⌜ Sound (stateAt b (now rates) (now cells) (now index)) × (now exps ≡ exponentials) ⌝ }
+    ensures equation { λ r. ⌜ r ≡ fedOf (feeding (stateAt b (now (rates .entry)) (now (cells .entry)) (now (index .entry))) (now (line .entry))) ⌝ }
+    ensures cells { λ r.
+        ⌜ now (cells .exit) ≡ feeding (stateAt b (now (rates .entry)) (now (cells .entry)) (now (index .entry))) (now (line .entry)) .state .cells ⌝ }
+    ensures index { λ r.
+        ⌜ now (index .exit) ≡ feeding (stateAt b (now (rates .entry)) (now (cells .entry)) (now (index .entry))) (now (line .entry)) .state .index ⌝ }
+    ensures sound { λ r. ⌜ Sound (stateAt (r .book) (now (rates .entry)) (now (cells .exit)) (now (index .exit))) ⌝ }
 {
     let read = line_reading::read_line(line);
     let Line::Refusal(refusal) = read else {
-        return feed_line(b, exps, rates, cells, read);
+        return feed_line(b, exps, rates, cells, index, read);
     };
     Fed { refusal, book: b }
 }
 
-// A line is fed to a book, with the table of rates that its opening left.
-pub fn feed(b: Book, rates: &Rates, cells: &mut Cells, line: &[u8]) -> Fed
-    requires { ⌜ Sound (stateAt b (now rates) (now cells)) ⌝ }
-    ensures equation { λ r. ⌜ r ≡ fedOf (feeding (stateAt b (now (rates .entry)) (now (cells .entry))) (now (line .entry))) ⌝ }
-    ensures cells { λ r. ⌜ now (cells .exit) ≡ feeding (stateAt b (now (rates .entry)) (now (cells .entry))) (now (line .entry)) .state .cells ⌝ }
-    ensures sound { λ r. ⌜ Sound (stateAt (r .book) (now (rates .entry)) (now (cells .exit))) ⌝ }
+// A line is fed to a book, with the tables that its opening and the feedings since left.
+pub fn feed(b: Book, rates: &Rates, cells: &mut Cells, index: &mut Index, line: &[u8]) -> Fed
+    requires { ⌜ Sound (stateAt b (now rates) (now cells) (now index)) ⌝ }
+    ensures equation { λ r. ⌜ r ≡ fedOf (feeding (stateAt b (now (rates .entry)) (now (cells .entry)) (now (index .entry))) (now (line .entry))) ⌝ }
+    ensures cells { λ r.
+        ⌜ now (cells .exit) ≡ feeding (stateAt b (now (rates .entry)) (now (cells .entry)) (now (index .entry))) (now (line .entry)) .state .cells ⌝ }
+    ensures index { λ r.
+        ⌜ now (index .exit) ≡ feeding (stateAt b (now (rates .entry)) (now (cells .entry)) (now (index .entry))) (now (line .entry)) .state .index ⌝ }
+    ensures sound { λ r. ⌜ Sound (stateAt (r .book) (now (rates .entry)) (now (cells .exit)) (now (index .exit))) ⌝ }
 {
     let exps = loan_charge::charge::table();
-    feed_with(b, &exps, rates, cells, line)
+    feed_with(b, &exps, rates, cells, index, line)
 }
 
 // The refusal of a closing that asks for a buffer of so many bytes, 0 for none: 6 for too few loans, or too few without a score, then 9.

@@ -1,18 +1,22 @@
 -- What a line adds is bounded, and counted by its kind. Assumes nothing.
 use mathlib.Core.Path.{_≡_, refl}
-use Prim.Native.Nat.{ℕ, _≤_}
+use Prim.Native.Nat.{ℕ, _+_, _≤_}
 use native.Mathlib.Omega.{arith}
 use Rattle.loan_charge.specs.declared.Score.{Score}
 use Rattle.loan_charge.specs.declared.Score.the-variants.{Scored, Unscored}
+use Rattle.loan_charge.specs.Charge.{Chargeable}
 use Rattle.loan_charge.proofs.Promise.{promise}
 use Rattle.line_forms.specs.declared.Content.{Content}
 use Rattle.line_forms.specs.declared.Loan.{Loan}
-use Rattle.figures.specs.Sums.{Bounded}
-use Rattle.book_model.specs.LineKinds.{contentKind, kindCounts, unscoredCount}
-use Rattle.book_model.specs.Ranges.{LoanRanges, Ranged}
-use Rattle.book_model.specs.Share.{share, loanShare, loanNumbers}
-use Rattle.book_model.specs.Terms.{Terms, loanInputs}
-use Rattle.book_model.proofs.Near.{ChargeableTerms, chargeable}
+use Rattle.figures.specs.Sums.{Bounded, noCounts}
+use Rattle.book_model.specs.declared.Adjustment.{Adjustment}
+use Rattle.book_model.specs.HouseIndex.{adjustmentOf, indexLine}
+use Rattle.book_model.specs.LineKinds.{contentKind, kindCounts, unscoredCount, withIndexed}
+use Rattle.book_model.specs.Ranges.{Ranged}
+use Rattle.book_model.specs.Share.{share, shareWith, numbersWith}
+use Rattle.book_model.specs.Terms.{Terms, Basis, inputsWith}
+use Rattle.book_model.proofs.Adjustments.{Has}
+use Rattle.book_model.proofs.Near.{ChargeableBasis, chargeable}
 use Rattle.book_model.proofs.Shapes.{Shape, of-loan, of-other, of-none, shape}
 
 pub unscored-most : (s : Score) → unscoredCount s ≤ 1
@@ -20,12 +24,11 @@ unfolding unscoredCount
 unscored-most (Scored number age) = omega arith
 unscored-most Unscored = omega arith
 
-pub loan-bounded : {t : Terms} → ChargeableTerms t → (l : Loan) → LoanRanges l → Bounded (loanShare t l)
-unfolding loanShare loanNumbers kindCounts
-loan-bounded {t} g l r =
-    let c = chargeable g l r in
-    let total = promise .total-range (loanInputs t l) c in
-    let supplement = promise .supplement-range (loanInputs t l) c in
+pub loan-bounded : (t : Terms) (a : Adjustment) (l : Loan) → Chargeable (inputsWith t a l) → Bounded (shareWith t a l)
+unfolding shareWith numbersWith kindCounts
+loan-bounded t a l c =
+    let total = promise .total-range (inputsWith t a l) c in
+    let supplement = promise .supplement-range (inputsWith t a l) c in
     record {
       unscored = unscored-most (l .score);
       total-plus = total .most;
@@ -44,21 +47,24 @@ loan-bounded {t} g l r =
       c = omega arith;
     }
 
-pub share-bounded : {t : Terms} → ChargeableTerms t → (c : Content) → Ranged c → Bounded (share t c)
+pub share-bounded : {g : Basis} → ChargeableBasis g → (c : Content) → Ranged c → Has (g .index) c → Bounded (share g c)
 unfolding share
-share-bounded {t} g c r = go (shape t c) r
+share-bounded {g} u c r h = go (shape g c) r h
   where
-    go : {c : Content} → Shape t c → Ranged c → Bounded (share t c)
-    go (of-loan l) r = loan-bounded g l r
-    go (of-other k a) r = rw (a .sums) (a .bounds r)
-    go (of-none k a b) r = rw a (omega arith)
+    go : {c : Content} → Shape g c → Ranged c → Has (g .index) c → Bounded (share g c)
+    go (of-loan l) r h = loan-bounded (g .terms) (adjustmentOf (g .index) l) l (chargeable u l r h)
+    go (of-other k z a) r h = rw (a .sums) (a .bounds r)
+    go (of-none k a b) r h = rw a (omega arith)
 
--- n is the number that line reading gave
-pub counted : (t : Terms) (n : ℕ) (c : Content) → share t c .counts ≡ kindCounts (contentKind n c)
-unfolding share loanShare contentKind kindCounts
-counted t n c = go (shape t c)
+none-counted : (n : ℕ) → withIndexed noCounts n ≡ record { loans = 0; unscored = 0; other = n }
+none-counted n = let e : 0 + n ≡ n = omega arith in λ i. record { loans = 0; unscored = 0; other = e i }
+
+-- What the data of a line adds to the counts, with the index lines, is how its kind counts; n is the number that line reading gave.
+pub counted : (g : Basis) (n : ℕ) (c : Content) → withIndexed (share g c .counts) (indexLine c) ≡ kindCounts (contentKind n c)
+unfolding share shareWith contentKind kindCounts
+counted g n c = go (shape g c)
   where
-    go : {c : Content} → Shape t c → share t c .counts ≡ kindCounts (contentKind n c)
+    go : {c : Content} → Shape g c → withIndexed (share g c .counts) (indexLine c) ≡ kindCounts (contentKind n c)
     go (of-loan l) = refl
-    go (of-other k a) = rw (k n, a .sums) refl
-    go (of-none k a b) = rw (k n, a) refl
+    go (of-other k z a) = rw (k n, z, a .sums) refl
+    go (of-none {c} k a b) = rw (k n, a) (none-counted (indexLine c))

@@ -14,9 +14,10 @@ use Rattle.loan_charge.proofs.CreditLaws.{band-most}
 use Rattle.line_forms.specs.declared.Loan.{Loan}
 use Rattle.line_forms.specs.declared.Content.{Content}
 use Rattle.line_forms.specs.declared.Content.the-variants.{Header as header, Loan as loan, Policy as policy, Derivative as derivative, Asset as asset}
-use Rattle.line_forms.specs.declared.Content.the-variants.{Amount as amount, NoForm}
+use Rattle.line_forms.specs.declared.Content.the-variants.{Amount as amount, Index as index, NoForm}
+use Rattle.book_model.specs.HouseIndex.{Index}
 use Rattle.book_model.specs.Ranges.{CellRanges}
-use Rattle.book_model.specs.Cells.{bandOf, beyond, ltvOf, ofLoan, noCells, addAt, withCell, CellsBounded}
+use Rattle.book_model.specs.Cells.{bandOf, beyond, ltvOf, loanLtv, ofLoan, noCells, addAt, withCell, CellsBounded}
 
 -- A line holds a loan, or whatever is asked of its loan is what stands for none.
 pub data Held : Content → Type 1 where
@@ -30,6 +31,7 @@ held (policy p) = no-loan (λ A f x. refl)
 held (derivative d) = no-loan (λ A f x. refl)
 held (asset a) = no-loan (λ A f x. refl)
 held (amount a) = no-loan (λ A f x. refl)
+held (index i) = no-loan (λ A f x. refl)
 held NoForm = no-loan (λ A f x. refl)
 
 -- Bands and columns
@@ -53,6 +55,9 @@ ltv-between p q = record {
     one : (t : Bool) → pick t 1 0 ≤ 1
     one true = omega arith
     one false = omega arith
+
+pub loan-ltv-between : (values : Index) (l : Loan) → Between 1 5 (loanLtv values l)
+loan-ltv-between values l = ltv-between _ _
 
 -- Bounds
 
@@ -80,7 +85,7 @@ cell-more cells place n x s b =
     bounded-wider _ (omega arith)
     (bounded-more _ _ _ _ (s .minus) (bounded-more _ _ _ _ (s .plus) (bounded-more _ _ _ _ (s .balance) (bounded-more cells _ _ (4 * n) (s .count) b))))
 
-zeros : (n i : ℕ) → _≡_ {A = ℕ} (getD (replicate n 0) i 0) 0
+pub zeros : (n i : ℕ) → _≡_ {A = ℕ} (getD (replicate n 0) i 0) 0
 zeros zero i = refl
 zeros (suc n) zero = refl
 zeros (suc n) (suc i) = zeros n i

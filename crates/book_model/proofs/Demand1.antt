@@ -1,6 +1,6 @@
 -- Demand 1 over the definitions. Assumes nothing.
 use mathlib.Core.Path.{_≡_, refl, _∙_, ap}
-use mathlib.Core.Bool.{Bool, true, false}
+use mathlib.Core.Bool.{Bool, true, false, _||_, false≢true}
 use mathlib.Core.List.{List, [], _∷_, List·Memᴰ, List·Memᴰ·head, List·Memᴰ·tail}
 use mathlib.Core.Logic.{_⊎_, ⊎-elim}
 use Prim.Native.Nat.{ℕ, _≤_}
@@ -9,11 +9,14 @@ use lib.Dec.{eqb, ltb, leb}
 use borrow.Author.Tests.{eqb-true}
 use lib.ListN.{length}
 use Rattle.exact.specs.Choice.{pick}
+use Rattle.figures.specs.declared.Counts.{Counts}
+use Rattle.line_forms.specs.declared.IndexValue.{IndexValue}
+use Rattle.line_forms.specs.declared.Loan.{Loan}
 use Rattle.line_forms.specs.declared.HeaderLine.{HeaderLine}
 use Rattle.line_forms.specs.declared.HeaderLine.the-variants.{Refusal as HeaderRefusal}
 use Rattle.line_forms.specs.declared.Line.{Line}
 use Rattle.line_forms.specs.declared.Line.the-variants.{Loan as LoanLine, Policy as PolicyLine, Derivative as DerivativeLine, Asset as AssetLine}
-use Rattle.line_forms.specs.declared.Line.the-variants.{Amount as AmountLine, Refusal}
+use Rattle.line_forms.specs.declared.Line.the-variants.{Amount as AmountLine, Index as IndexLine, Refusal}
 use Rattle.line_forms.specs.Readings.{lineOf, headerOf}
 use Rattle.line_forms.proofs.HeaderLaws.{header-numbers}
 use Rattle.line_forms.proofs.LineLaws.{line-numbers}
@@ -23,10 +26,12 @@ use Rattle.book_report.proofs.Lengths.{report-most}
 use Rattle.cell_report.proofs.Laws.{cells-fit as cells-fit-64}
 use Rattle.book_model.specs.declared.Book.{Book}
 use Rattle.book_model.specs.Accepted.{mostOther, loanBeyond, refusalFor}
-use Rattle.book_model.specs.Calls.{State, Answer, stateAt, openingFor, refusalIn, bookAfter, cellsAfter, feedingLine, tooFew, closingWith, reportSize}
-use Rattle.book_model.specs.Calls.{reportOf, cellsSize, cellsTextOf, SoundBook, Sound}
+use Rattle.book_model.specs.Calls.{State, Answer, stateAt, basisIn, countsOf, openingFor, refusalIn, bookAfter, cellsAfter, indexAfter, feedingLine, tooFew}
+use Rattle.book_model.specs.Calls.{closingWith, reportSize, reportOf, cellsSize, cellsTextOf, SoundBook, Sound}
 use Rattle.book_model.specs.Demand1.{refusedState, Demand1}
-use Rattle.book_model.specs.LineKinds.{contentKind}
+use Rattle.book_model.specs.HouseIndex.{adjustmentOf, lacking}
+use Rattle.book_model.specs.LineKinds.{a-loan, an-index, another, contentKind}
+use Rattle.book_model.specs.Terms.{Basis}
 use Rattle.book_model.proofs.Closings.{untouched}
 use Rattle.book_model.proofs.Feeding as feeding-laws
 use Rattle.book_model.proofs.Openings.{number, sheet-passes, sheet-fails, header-fails, Case, book-opens, sheet-refused, header-refused, caseOf}
@@ -52,25 +57,62 @@ opening-number sheet l k = go (caseOf sheet l) k
         later (⊎-elim (λ a. first (e ∙ a)) (λ a. later (⊎-elim (λ b. first (e ∙ b)) (λ b. later (⊎-elim (λ c. first (e ∙ c)) (λ c. later
         (⊎-elim (λ d. first (e ∙ d)) (λ d. later (first (e ∙ d))) c)) b)) a)) (k n refl))
 
--- the numbers of feeding, 5 and 8 the last
+-- the numbers of feeding
 abbrev Fed : ℕ → Type 0
-Fed n = List·Memᴰ n (0 ∷ 1 ∷ 2 ∷ 7 ∷ 3 ∷ 5 ∷ 8 ∷ [])
+Fed n = List·Memᴰ n (0 ∷ 1 ∷ 2 ∷ 7 ∷ 3 ∷ 5 ∷ 12 ∷ 8 ∷ 11 ∷ [])
 
-tested-5 : (test : Bool) → Fed (pick test 5 0)
-tested-5 true = later (later (later (later (later (first refl)))))
-tested-5 false = first refl
+-- a number that a list has
+unfoldable has : ℕ → List ℕ → Bool
+has n [] = false
+has n (x ∷ xs) = eqb n x || has n xs
 
-tested-8 : (test : Bool) → Fed (pick test 8 0)
-tested-8 true = later (later (later (later (later (later (first refl))))))
-tested-8 false = first refl
+found : (n : ℕ) (xs : List ℕ) → has n xs ≡ true → List·Memᴰ n xs
+unfolding has
+found n [] e = absurd (false≢true e)
+found n (x ∷ xs) e = go (eqb n x) refl e (found n xs)
+  where
+    go : (t : Bool) → eqb n x ≡ t → (t || has n xs) ≡ true → (has n xs ≡ true → List·Memᴰ n xs) → List·Memᴰ n (x ∷ xs)
+    go true f e rest = first (eqb-true n x f)
+    go false f e rest = later (rest e)
+
+-- by both tests, whichever comes first
+loan-number : (g : Basis) (c : Counts) (l : Loan) → Fed (refusalFor g c (a-loan l))
+unfolding refusalFor has
+loan-number g c l = go (loanBeyond (g .terms .header) c (l .score)) refl (lacking (adjustmentOf (g .index) l)) refl
+  where
+    go : (x : Bool) → loanBeyond (g .terms .header) c (l .score) ≡ x → (y : Bool) → lacking (adjustmentOf (g .index) l) ≡ y →
+        Fed (refusalFor g c (a-loan l))
+    go true p true q = simp (p, q) (found _ _ refl)
+    go true p false q = simp (p, q) (found _ _ refl)
+    go false p true q = simp (p, q) (found _ _ refl)
+    go false p false q = simp (p, q) (found _ _ refl)
+
+index-number : (g : Basis) (c : Counts) (i : IndexValue) → Fed (refusalFor g c (an-index i))
+unfolding refusalFor has
+index-number g c i = go (leb mostOther (c .other)) refl (eqb (g .index (i .area) (i .month)) 0) refl
+  where
+    go : (x : Bool) → leb mostOther (c .other) ≡ x → (y : Bool) → eqb (g .index (i .area) (i .month)) 0 ≡ y → Fed (refusalFor g c (an-index i))
+    go true p true q = simp (p, q) (found _ _ refl)
+    go true p false q = simp (p, q) (found _ _ refl)
+    go false p true q = simp (p, q) (found _ _ refl)
+    go false p false q = simp (p, q) (found _ _ refl)
+
+other-number : (g : Basis) (c : Counts) → Fed (refusalFor g c another)
+unfolding refusalFor has
+other-number g c = go (leb mostOther (c .other)) refl
+  where
+    go : (x : Bool) → leb mostOther (c .other) ≡ x → Fed (refusalFor g c another)
+    go true p = rw p (found _ _ refl)
+    go false p = rw p (found _ _ refl)
 
 feeding-number : (s : State) (l : Line) → ((n : ℕ) → l ≡ Refusal n → (n ≡ 1) ⊎ (n ≡ 2) ⊎ (n ≡ 7) ⊎ (n ≡ 3)) → Fed (refusalIn s l)
 unfolding refusalFor contentKind
-feeding-number s (LoanLine l) k = tested-5 (loanBeyond (s .book .header) (s .book .sums .counts) (l .score))
-feeding-number s (PolicyLine p) k = tested-8 (leb mostOther (s .book .sums .counts .other))
-feeding-number s (DerivativeLine d) k = tested-8 (leb mostOther (s .book .sums .counts .other))
-feeding-number s (AssetLine a) k = tested-8 (leb mostOther (s .book .sums .counts .other))
-feeding-number s (AmountLine a) k = tested-8 (leb mostOther (s .book .sums .counts .other))
+feeding-number s (LoanLine l) k = loan-number (basisIn s) (countsOf (s .book)) l
+feeding-number s (PolicyLine p) k = other-number (basisIn s) (countsOf (s .book))
+feeding-number s (DerivativeLine d) k = other-number (basisIn s) (countsOf (s .book))
+feeding-number s (AssetLine a) k = other-number (basisIn s) (countsOf (s .book))
+feeding-number s (AmountLine a) k = other-number (basisIn s) (countsOf (s .book))
+feeding-number s (IndexLine i) k = index-number (basisIn s) (countsOf (s .book)) i
 feeding-number s (Refusal n) k = later (⊎-elim first (λ a. later (⊎-elim first (λ b. later (⊎-elim first (λ c. later (first c)) b)) a)) (k n refl))
 
 closing-number : (x y : Bool) → List·Memᴰ {A = ℕ} (pick x 6 (pick y 9 0)) (0 ∷ 6 ∷ 9 ∷ [])
@@ -87,16 +129,18 @@ refused-opening sheet l n = go (caseOf sheet l) n
     go (header-refused k) n = ap (λ (x : Answer). x .state) (header-fails sheet k)
 
 refused-feeding : (s : State) (l : Line) → (feedingLine s l .refusal ≡ 0 → ⊥) → feedingLine s l .state ≡ s
-unfolding feedingLine bookAfter cellsAfter
-refused-feeding s l n = go (eqb (refusalIn s l) 0) _ _ refl
+unfolding feedingLine bookAfter cellsAfter indexAfter
+refused-feeding s l n = go (eqb (refusalIn s l) 0) _ _ _ refl
   where
-    go : (t : Bool) (b : Book) (cells : List ℕ) → eqb (refusalIn s l) 0 ≡ t → stateAt (pick t b (s .book)) (s .rates) (pick t cells (s .cells)) ≡ s
-    go true b cells e = absurd (n (eqb-true (refusalIn s l) 0 e))
-    go false b cells e = refl
+    go : (t : Bool) (b : Book) (cells index : List ℕ) → eqb (refusalIn s l) 0 ≡ t →
+        stateAt (pick t b (s .book)) (s .rates) (pick t cells (s .cells)) (pick t index (s .index)) ≡ s
+    go true b cells index e = absurd (n (eqb-true (refusalIn s l) 0 e))
+    go false b cells index e = refl
 
 report-fits : (b : Book) → SoundBook b → length (reportOf b) ≤ 512
 report-fits b h =
-    let bounds = figures-bounded (b .header .held) (b .sums) (h .bounded) (record { loans = omega (arith, h .loans, h .header-loans); other = h .other }) in
+    let bounds = figures-bounded (b .header .held) (b .sums) (h .bounded)
+    (record { loans = omega (arith, h .loans, h .header-loans); other = omega (arith, h .other) }) in
     omega (arith, report-most (figuresOf (b .header .held) (b .sums)) bounds)
 
 cells-fit : (s : State) → Sound s → length (cellsTextOf (s .cells)) ≤ 8192

@@ -1,43 +1,47 @@
 -- Demand 2: each refusal when and only when its condition holds. Assumes nothing.
-use mathlib.Core.Path.{_≡_, refl, sym, ap, _∙_}
+use mathlib.Core.Path.{_≡_, refl, sym, ap, _∙_, subst}
 use mathlib.Core.Bool.{Bool, true, false, true≢false, _||_}
 use mathlib.Core.List.{List}
 use mathlib.Core.Logic.{_↔_, _⊎_, inl, inr, ⊎-elim}
 use Prim.Native.Nat.{ℕ, _+_, _≤_, _<_}
 use native.Mathlib.Omega.{arith}
-use lib.Dec.{leb}
-use borrow.Author.Tests.{leb-true, leb-false, le-leb, lt-leb}
+use lib.Dec.{leb, eqb}
+use borrow.Author.Tests.{leb-true, leb-false, le-leb, lt-leb, eqb-true, eqb-false, eq-eqb, ne-eqb}
 use Rattle.exact.specs.Choice.{pick}
 use Rattle.loan_charge.specs.declared.Score.{Score}
 use Rattle.loan_charge.specs.declared.Score.the-variants.{Scored, Unscored}
 use Rattle.sheet.specs.Sheet.{SheetRules, sheetPasses}
 use Rattle.sheet.proofs.Rules.{rules, passes}
 use Rattle.line_forms.specs.declared.Header.{Header}
+use Rattle.line_forms.specs.declared.IndexValue.{IndexValue}
 use Rattle.line_forms.specs.declared.Loan.{Loan}
 use Rattle.line_forms.specs.declared.Content.{Content}
 use Rattle.line_forms.specs.declared.Content.the-variants.{Header as header, Loan as loan, Policy as policy, Derivative as derivative, Asset as asset}
-use Rattle.line_forms.specs.declared.Content.the-variants.{Amount as amount, NoForm}
+use Rattle.line_forms.specs.declared.Content.the-variants.{Amount as amount, Index as index, NoForm}
 use Rattle.line_forms.specs.declared.Line.{Line}
 use Rattle.line_forms.specs.declared.Line.the-variants.{Loan as LoanLine, Policy as PolicyLine, Derivative as DerivativeLine, Asset as AssetLine}
-use Rattle.line_forms.specs.declared.Line.the-variants.{Amount as AmountLine, Refusal}
+use Rattle.line_forms.specs.declared.Line.the-variants.{Amount as AmountLine, Index as IndexLine, Refusal}
 use Rattle.line_forms.specs.declared.HeaderLine.{HeaderLine}
 use Rattle.line_forms.specs.declared.HeaderLine.the-variants.{Header as HeaderRead, Refusal as HeaderRefusal}
 use Rattle.line_forms.specs.Readings.{lineOf, headerOf}
 use Rattle.line_forms.specs.Claims.{ShowsInRange, AfterHeader, lineWith, lineRefusal, headerRefusal, LineReading, HeaderReading}
-use Rattle.line_forms.proofs.LineLaws.{line-reading, line-accepted, line-numbers, refused-line}
+use Rattle.line_forms.proofs.LineLaws.{line-reading, line-numbers, refused-line}
 use Rattle.line_forms.proofs.HeaderLaws.{header-reading, header-accepted, header-numbers}
 use Rattle.figures.specs.declared.Counts.{Counts}
 use Rattle.book_model.specs.Accepted.{Accepted, countsIn, mostOther, loanBeyond, refusalFor, refusalOf}
 use Rattle.book_model.specs.Calls.{Answer, openingFor, opening, closingRefusal, reportSize, cellsSize}
-use Rattle.book_model.specs.Demand2.{OtherForm, Counted, Opens, OpeningAnswer, LoanFits, LoanBeyond, Fits, FeedingAnswer, ClosingAnswer, Demand2}
+use Rattle.book_model.specs.Demand2.{OtherForm, Counted, Opens, OpeningAnswer, LoanFits, LoanBeyond, IsSet, ValueMissing, Fits, FeedingAnswer}
+use Rattle.book_model.specs.Demand2.{ClosingAnswer, Demand2}
 use Rattle.book_model.specs.History.{opened, allFed, termsOf, acceptedOf}
-use Rattle.book_model.specs.LineKinds.{LineKind, a-loan, another, refused, contentKind, kindOf, kindCounts, unscoredCount}
-use Rattle.book_model.specs.Terms.{Terms}
+use Rattle.book_model.specs.HouseIndex.{adjustmentOf, lacking, valuesIn, indexLine}
+use Rattle.book_model.specs.LineKinds.{LineKind, a-loan, an-index, another, refused, contentKind, kindOf, kindCounts, unscoredCount}
+use Rattle.book_model.specs.Terms.{Terms, basisOf}
 use Rattle.book_model.proofs.BoundedShares.{unscored-most}
 use Rattle.book_model.proofs.Closings.{closes-6, closes-9, closes-0}
 use Rattle.book_model.proofs.Demand3.{demand3}
 use Rattle.book_model.proofs.LoanTable.{loan-table}
 use Rattle.book_model.proofs.Openings.{number, openedUnder, sheet-passes, sheet-fails, header-fails}
+use Rattle.book_model.proofs.SetValues.{shows, read, is-set, not-set, values-set, set-has, value-missing, missing-lacks}
 use Rattle.book_model.proofs.Openings.{Case, book-opens, sheet-refused, header-refused, caseOf}
 
 -- Lines
@@ -49,50 +53,56 @@ other-after (policy p) a = tt
 other-after (derivative d) a = tt
 other-after (asset x) a = tt
 other-after (amount x) a = tt
+other-after (index x) a = tt
 other-after NoForm a = a
 
-other-kind : (c : Content) → OtherForm c → kindOf (lineWith c) ≡ another
+-- the kinds of lines that are not loans
+data OtherKind : LineKind → Type 0 where
+  plain : OtherKind another
+  indexed : (i : IndexValue) → OtherKind (an-index i)
+
+other-kind : (c : Content) → OtherForm c → OtherKind (kindOf (lineWith c))
 unfolding contentKind
 other-kind (header x) a = absurd a
 other-kind (loan l) a = absurd a
-other-kind (policy p) a = refl
-other-kind (derivative d) a = refl
-other-kind (asset x) a = refl
-other-kind (amount x) a = refl
+other-kind (policy p) a = plain
+other-kind (derivative d) a = plain
+other-kind (asset x) a = plain
+other-kind (amount x) a = plain
+other-kind (index i) a = indexed i
 other-kind NoForm a = absurd a
 
 -- what a line of a kind shows
 data Shown (s : List ℕ) : LineKind → Type 0 where
-  loan-shown : (l : Loan) → ShowsInRange s (loan l) → Shown s (a-loan (l .score))
-  other-shown : (c : Content) → OtherForm c → ShowsInRange s c → Shown s another
+  loan-shown : (l : Loan) → ShowsInRange s (loan l) → Shown s (a-loan l)
+  index-shown : (i : IndexValue) → ShowsInRange s (index i) → Shown s (an-index i)
+  other-shown : (c : Content) → OtherForm c → indexLine c ≡ 0 → ShowsInRange s c → Shown s another
   refused-shown : (n : ℕ) → lineOf s ≡ Refusal n → Shown s (refused n)
 
 module _ (s : List ℕ) where
-  -- a line read as the data c
-  shows : (c : Content) → AfterHeader c → lineOf s ≡ lineWith c → ShowsInRange s c
-  shows c a e = let k = line-accepted s c a .0 e in record { shows = record { writable = k .0; bytes = k .2 }; in-range = k .1 }
-
-  read : (c : Content) → AfterHeader c → ShowsInRange s c → lineOf s ≡ lineWith c
-  read c a k = line-accepted s c a .1 (k .shows .writable, k .in-range, k .shows .bytes)
-
   kind-shown : Shown s (kindOf (lineOf s))
   unfolding contentKind
   kind-shown = go (lineOf s) refl
     where
       go : (l : Line) → lineOf s ≡ l → Shown s (kindOf l)
-      go (LoanLine l) e = loan-shown l (shows (loan l) tt e)
-      go (PolicyLine p) e = other-shown (policy p) tt (shows (policy p) tt e)
-      go (DerivativeLine d) e = other-shown (derivative d) tt (shows (derivative d) tt e)
-      go (AssetLine a) e = other-shown (asset a) tt (shows (asset a) tt e)
-      go (AmountLine a) e = other-shown (amount a) tt (shows (amount a) tt e)
+      go (LoanLine l) e = loan-shown l (shows s (loan l) tt e)
+      go (PolicyLine p) e = other-shown (policy p) tt refl (shows s (policy p) tt e)
+      go (DerivativeLine d) e = other-shown (derivative d) tt refl (shows s (derivative d) tt e)
+      go (AssetLine a) e = other-shown (asset a) tt refl (shows s (asset a) tt e)
+      go (AmountLine a) e = other-shown (amount a) tt refl (shows s (amount a) tt e)
+      go (IndexLine i) e = index-shown i (shows s (index i) tt e)
       go (Refusal n) e = refused-shown n e
 
-  loan-kind : (l : Loan) → ShowsInRange s (loan l) → kindOf (lineOf s) ≡ a-loan (l .score)
+  loan-kind : (l : Loan) → ShowsInRange s (loan l) → kindOf (lineOf s) ≡ a-loan l
   unfolding contentKind
-  loan-kind l k = ap kindOf (read (loan l) tt k)
+  loan-kind l k = ap kindOf (read s (loan l) tt k)
 
-  other-is : (c : Content) → OtherForm c → ShowsInRange s c → kindOf (lineOf s) ≡ another
-  other-is c o k = ap kindOf (read c (other-after c o) k) ∙ other-kind c o
+  index-kind : (i : IndexValue) → ShowsInRange s (index i) → kindOf (lineOf s) ≡ an-index i
+  unfolding contentKind
+  index-kind i k = ap kindOf (read s (index i) tt k)
+
+  other-is : (c : Content) → OtherForm c → ShowsInRange s c → OtherKind (kindOf (lineOf s))
+  other-is c o k = subst OtherKind (ap kindOf (sym (read s c (other-after c o) k))) (other-kind c o)
 
   refused-kind : (n : ℕ) → lineOf s ≡ Refusal n → kindOf (lineOf s) ≡ refused n
   unfolding contentKind
@@ -108,33 +118,42 @@ unscored-is Unscored e = refl
 counted-loan : (s : List ℕ) (k : LineKind) → Shown s k → kindCounts k .loans ≡ 1 → (l : Loan) × ShowsInRange s (loan l)
 unfolding kindCounts
 counted-loan s k (loan-shown l h) e = (l, h)
-counted-loan s k (other-shown c o h) e = absurd (omega (arith, e))
+counted-loan s k (index-shown i h) e = absurd (omega (arith, e))
+counted-loan s k (other-shown c o z h) e = absurd (omega (arith, e))
 counted-loan s k (refused-shown n r) e = absurd (omega (arith, e))
 
 counted-unscored : (s : List ℕ) (k : LineKind) → Shown s k → kindCounts k .unscored ≡ 1 → (l : Loan) × ShowsInRange s (loan l) × (l .score ≡ Unscored)
 unfolding kindCounts
 counted-unscored s k (loan-shown l h) e = (l, h, unscored-is (l .score) e)
-counted-unscored s k (other-shown c o h) e = absurd (omega (arith, e))
+counted-unscored s k (index-shown i h) e = absurd (omega (arith, e))
+counted-unscored s k (other-shown c o z h) e = absurd (omega (arith, e))
 counted-unscored s k (refused-shown n r) e = absurd (omega (arith, e))
 
 counted-other : (s : List ℕ) (k : LineKind) → Shown s k → kindCounts k .other ≡ 1 → (c : Content) × OtherForm c × ShowsInRange s c
 unfolding kindCounts
 counted-other s k (loan-shown l h) e = absurd (omega (arith, e))
-counted-other s k (other-shown c o h) e = (c, o, h)
+counted-other s k (index-shown i h) e = (index i, tt, h)
+counted-other s k (other-shown c o z h) e = (c, o, h)
 counted-other s k (refused-shown n r) e = absurd (omega (arith, e))
 
 counted-once : (k : LineKind) → (kindCounts k .loans + kindCounts k .other ≤ 1) × (kindCounts k .unscored ≤ kindCounts k .loans)
 unfolding kindCounts
-counted-once (a-loan score) = (omega arith, unscored-most score)
+counted-once (a-loan l) = (omega arith, unscored-most (l .score))
+counted-once (an-index i) = (omega arith, omega arith)
 counted-once another = (omega arith, omega arith)
 counted-once (refused n) = (omega arith, omega arith)
+
+other-counts : {k : LineKind} → OtherKind k → kindCounts k .other ≡ 1
+unfolding kindCounts
+other-counts plain = refl
+other-counts (indexed i) = refl
 
 pub counted : (s : List ℕ) → Counted s
 unfolding kindCounts unscoredCount
 counted s = record {
   loans = (counted-loan s (kindOf (lineOf s)) (kind-shown s), λ (l, h). rw (loan-kind s l h) refl);
   unscored = (counted-unscored s (kindOf (lineOf s)) (kind-shown s), λ (l, h, u). rw (loan-kind s l h, u) refl);
-  other = (counted-other s (kindOf (lineOf s)) (kind-shown s), λ (c, o, h). rw (other-is s c o h) refl);
+  other = (counted-other s (kindOf (lineOf s)) (kind-shown s), λ (c, o, h). other-counts (other-is s c o h));
   once = counted-once (kindOf (lineOf s)) .0;
   among-loans = counted-once (kindOf (lineOf s)) .1;
 }
@@ -186,54 +205,105 @@ fits-false h c (Scored number age) k = rw (lt-leb (h .loans) (c .loans) k) refl
 fits-false h c Unscored k = rw (lt-leb (h .loans) (c .loans) (k .0), lt-leb (h .unscored) (c .unscored) (k .1)) refl
 
 -- other data keeps to the limit where there is room
-other-fits : (h : Header) (n : Counts) (c : Content) → OtherForm c → n .other < 100000 → Fits h n c
-other-fits h n (header x) o k = absurd o
-other-fits h n (loan l) o k = absurd o
-other-fits h n (policy p) o k = k
-other-fits h n (derivative d) o k = k
-other-fits h n (asset a) o k = k
-other-fits h n (amount a) o k = k
-other-fits h n NoForm o k = absurd o
+other-fits : (h : Header) (kept : List (List ℕ)) (c : Content) → OtherForm c → indexLine c ≡ 0 → countsIn kept .other < 100000 → Fits h kept c
+other-fits h kept (header x) o z k = absurd o
+other-fits h kept (loan l) o z k = absurd o
+other-fits h kept (policy p) o z k = k
+other-fits h kept (derivative d) o z k = k
+other-fits h kept (asset a) o z k = k
+other-fits h kept (amount a) o z k = k
+other-fits h kept (index i) o z k = absurd (omega (arith, z))
+other-fits h kept NoForm o z k = absurd o
 
 -- The rules of feeding, one for each answer.
-data Judged (t : Terms) (n : Counts) (s : List ℕ) : ℕ → Type 0 where
-  by-bytes : (k : ℕ) → lineOf s ≡ Refusal k → Judged t n s k
-  five : (l : Loan) → ShowsInRange s (loan l) → LoanBeyond (t .header) n (l .score) → Judged t n s 5
-  eight : (c : Content) → OtherForm c → ShowsInRange s c → 100000 ≤ n .other → Judged t n s 8
-  fitting : (c : Content) → ShowsInRange s c → Fits (t .header) n c → Judged t n s 0
+data Judged (t : Terms) (kept : List (List ℕ)) (s : List ℕ) : ℕ → Type 0 where
+  by-bytes : (k : ℕ) → lineOf s ≡ Refusal k → Judged t kept s k
+  five : (l : Loan) → ShowsInRange s (loan l) → LoanBeyond (t .header) (countsIn kept) (l .score) → Judged t kept s 5
+  twelve : (l : Loan) → ShowsInRange s (loan l) → LoanFits (t .header) (countsIn kept) (l .score) → ValueMissing kept l → Judged t kept s 12
+  eight : (c : Content) → OtherForm c → ShowsInRange s c → 100000 ≤ countsIn kept .other → Judged t kept s 8
+  eleven : (i : IndexValue) → ShowsInRange s (index i) → countsIn kept .other < 100000 → IsSet kept (i .area) (i .month) → Judged t kept s 11
+  fitting : (c : Content) → ShowsInRange s c → Fits (t .header) kept c → Judged t kept s 0
 
-module _ (t : Terms) (n : Counts) (s : List ℕ) where
+module _ (t : Terms) (kept : List (List ℕ)) (s : List ℕ) where
+  abbrev n : Counts
+  n = countsIn kept
+
   -- the answer obeys a rule
-  judged-loan : (l : Loan) → ShowsInRange s (loan l) → (b : Bool) → loanBeyond (t .header) n (l .score) ≡ b → Judged t n s (pick b 5 0)
-  judged-loan l h true e = five l h (beyond (t .header) n (l .score) e)
-  judged-loan l h false e = fitting (loan l) h (fits (t .header) n (l .score) e)
+  judged-loan : (l : Loan) → ShowsInRange s (loan l) → (b m : Bool) → loanBeyond (t .header) n (l .score) ≡ b →
+      lacking (adjustmentOf (valuesIn kept) l) ≡ m → Judged t kept s (pick b 5 (pick m 12 0))
+  judged-loan l h true m e f = five l h (beyond (t .header) n (l .score) e)
+  judged-loan l h false true e f = twelve l h (fits (t .header) n (l .score) e) (value-missing kept l f)
+  judged-loan l h false false e f = fitting (loan l) h (fits (t .header) n (l .score) e, values-set kept l f)
 
-  judged-other : (c : Content) → OtherForm c → ShowsInRange s c → (b : Bool) → leb mostOther (n .other) ≡ b → Judged t n s (pick b 8 0)
-  judged-other c o h true e = eight c o h (leb-true mostOther (n .other) e)
-  judged-other c o h false e = fitting c h (other-fits (t .header) n c o (leb-false mostOther (n .other) e))
+  judged-index : (i : IndexValue) → ShowsInRange s (index i) → (b u : Bool) → leb mostOther (n .other) ≡ b →
+      eqb (valuesIn kept (i .area) (i .month)) 0 ≡ u → Judged t kept s (pick b 8 (pick u 0 11))
+  judged-index i h true u e f = eight (index i) tt h (leb-true mostOther (n .other) e)
+  judged-index i h false true e f =
+      fitting (index i) h (leb-false mostOther (n .other) e, not-set kept (i .area) (i .month) .0 (eqb-true (valuesIn kept (i .area) (i .month)) 0 f))
+  judged-index i h false false e f =
+      let d : valuesIn kept (i .area) (i .month) ≡ 0 → ⊥ = eqb-false (valuesIn kept (i .area) (i .month)) 0 f in
+      eleven i h (leb-false mostOther (n .other) e) (is-set kept (i .area) (i .month) .1 (omega arith))
 
-  judged-kind : (k : LineKind) → Shown s k → Judged t n s (refusalFor t n k)
+  judged-other : (c : Content) → OtherForm c → indexLine c ≡ 0 → ShowsInRange s c → (b : Bool) → leb mostOther (n .other) ≡ b →
+      Judged t kept s (pick b 8 0)
+  judged-other c o z h true e = eight c o h (leb-true mostOther (n .other) e)
+  judged-other c o z h false e = fitting c h (other-fits (t .header) kept c o z (leb-false mostOther (n .other) e))
+
+  judged-kind : (k : LineKind) → Shown s k → Judged t kept s (refusalFor (basisOf t kept) n k)
   unfolding refusalFor
-  judged-kind k (loan-shown l h) = judged-loan l h (loanBeyond (t .header) n (l .score)) refl
-  judged-kind k (other-shown c o h) = judged-other c o h (leb mostOther (n .other)) refl
+  judged-kind k (loan-shown l h) = judged-loan l h (loanBeyond (t .header) n (l .score)) (lacking (adjustmentOf (valuesIn kept) l)) refl refl
+  judged-kind k (index-shown i h) = judged-index i h (leb mostOther (n .other)) (eqb (valuesIn kept (i .area) (i .month)) 0) refl refl
+  judged-kind k (other-shown c o z h) = judged-other c o z h (leb mostOther (n .other)) refl
   judged-kind k (refused-shown r e) = by-bytes r e
 
   -- a rule gives its answer
-  fitting-answer : (c : Content) → ShowsInRange s c → Fits (t .header) n c → refusalFor t n (kindOf (lineOf s)) ≡ 0
+  other-answer : {k : LineKind} → OtherKind k → 100000 ≤ n .other → refusalFor (basisOf t kept) n k ≡ 8
+  unfolding refusalFor
+  other-answer plain m = rw (le-leb mostOther (n .other) m) refl
+  other-answer (indexed i) m = rw (le-leb mostOther (n .other) m) refl
+
+  plain-answer : (c : Content) → OtherForm c → indexLine c ≡ 0 → ShowsInRange s c → n .other < 100000 →
+      refusalFor (basisOf t kept) n (kindOf (lineOf s)) ≡ 0
+  unfolding refusalFor contentKind
+  plain-answer (header x) o z h f = absurd o
+  plain-answer (loan l) o z h f = absurd o
+  plain-answer (policy p) o z h f = rw (read s (policy p) tt h, lt-leb mostOther (n .other) f) refl
+  plain-answer (derivative d) o z h f = rw (read s (derivative d) tt h, lt-leb mostOther (n .other) f) refl
+  plain-answer (asset a) o z h f = rw (read s (asset a) tt h, lt-leb mostOther (n .other) f) refl
+  plain-answer (amount a) o z h f = rw (read s (amount a) tt h, lt-leb mostOther (n .other) f) refl
+  plain-answer (index i) o z h f = absurd (omega (arith, z))
+  plain-answer NoForm o z h f = absurd o
+
+  fitting-answer : (c : Content) → ShowsInRange s c → Fits (t .header) kept c → refusalFor (basisOf t kept) n (kindOf (lineOf s)) ≡ 0
   unfolding refusalFor
   fitting-answer (header x) h f = absurd f
-  fitting-answer (loan l) h f = rw (loan-kind s l h, fits-false (t .header) n (l .score) f) refl
-  fitting-answer (policy p) h f = rw (other-is s (policy p) tt h, lt-leb mostOther (n .other) f) refl
-  fitting-answer (derivative d) h f = rw (other-is s (derivative d) tt h, lt-leb mostOther (n .other) f) refl
-  fitting-answer (asset a) h f = rw (other-is s (asset a) tt h, lt-leb mostOther (n .other) f) refl
-  fitting-answer (amount a) h f = rw (other-is s (amount a) tt h, lt-leb mostOther (n .other) f) refl
+  fitting-answer (loan l) h f = rw (loan-kind s l h, fits-false (t .header) n (l .score) (f .0), set-has kept l (f .1)) refl
+  fitting-answer (policy p) h f = plain-answer (policy p) tt refl h f
+  fitting-answer (derivative d) h f = plain-answer (derivative d) tt refl h f
+  fitting-answer (asset a) h f = plain-answer (asset a) tt refl h f
+  fitting-answer (amount a) h f = plain-answer (amount a) tt refl h f
+  fitting-answer (index i) h f =
+      rw (
+        index-kind s i h,
+        lt-leb mostOther (n .other) (f .0),
+        eq-eqb (valuesIn kept (i .area) (i .month)) 0 (not-set kept (i .area) (i .month) .1 (f .1)),
+      )
+      refl
   fitting-answer NoForm h f = absurd f
 
-  answers : {k : ℕ} → Judged t n s k → refusalFor t n (kindOf (lineOf s)) ≡ k
+  answers : {k : ℕ} → Judged t kept s k → refusalFor (basisOf t kept) n (kindOf (lineOf s)) ≡ k
   unfolding refusalFor
   answers (by-bytes k e) = rw (refused-kind s k e) refl
   answers (five l h b) = rw (loan-kind s l h, beyond-true (t .header) n (l .score) b) refl
-  answers (eight c o h m) = rw (other-is s c o h, le-leb mostOther (n .other) m) refl
+  answers (twelve l h f m) = rw (loan-kind s l h, fits-false (t .header) n (l .score) f, missing-lacks kept l m) refl
+  answers (eight c o h m) = other-answer (other-is s c o h) m
+  answers (eleven i h m e) =
+      rw (
+        index-kind s i h,
+        lt-leb mostOther (n .other) m,
+        ne-eqb (valuesIn kept (i .area) (i .month)) 0 (λ z. omega (arith, z, is-set kept (i .area) (i .month) .0 e)),
+      )
+      refl
   answers (fitting c h f) = fitting-answer c h f
 
 -- the numbers of line reading, none of which feeding gives on other grounds
@@ -243,65 +313,100 @@ data Reading : ℕ → Type 0 where
   seven : Reading 7
   three : Reading 3
 
-not-counts : {m : ℕ} → Reading m → (m ≡ 0 → ⊥) × (m ≡ 5 → ⊥) × (m ≡ 8 → ⊥)
-not-counts one = (λ z. omega (arith, z), λ z. omega (arith, z), λ z. omega (arith, z))
-not-counts two = (λ z. omega (arith, z), λ z. omega (arith, z), λ z. omega (arith, z))
-not-counts seven = (λ z. omega (arith, z), λ z. omega (arith, z), λ z. omega (arith, z))
-not-counts three = (λ z. omega (arith, z), λ z. omega (arith, z), λ z. omega (arith, z))
+abbrev Apart : ℕ → Type 0
+Apart m = (m ≡ 0 → ⊥) × (m ≡ 5 → ⊥) × (m ≡ 12 → ⊥) × (m ≡ 8 → ⊥) × (m ≡ 11 → ⊥)
 
-read-answer : (t : Terms) (n : Counts) (s : List ℕ) {m : ℕ} → Reading m → lineRefusal (lineOf s) ≡ m → refusalFor t n (kindOf (lineOf s)) ≡ m
-read-answer t n s {m} r e = answers t n s (by-bytes m (refused-line (lineOf s) m e (not-counts r .0)))
+apart : (m : ℕ) → m ≤ 7 → (m ≡ 0 → ⊥) → (m ≡ 5 → ⊥) → Apart m
+apart m h z f = (z, f, λ e. omega (arith, e), λ e. omega (arith, e), λ e. omega (arith, e))
+
+not-counts : {m : ℕ} → Reading m → Apart m
+not-counts one = apart 1 (omega arith) (λ z. omega (arith, z)) (λ z. omega (arith, z))
+not-counts two = apart 2 (omega arith) (λ z. omega (arith, z)) (λ z. omega (arith, z))
+not-counts seven = apart 7 (omega arith) (λ z. omega (arith, z)) (λ z. omega (arith, z))
+not-counts three = apart 3 (omega arith) (λ z. omega (arith, z)) (λ z. omega (arith, z))
+
+read-answer : (t : Terms) (kept : List (List ℕ)) (s : List ℕ) {m : ℕ} → Reading m → lineRefusal (lineOf s) ≡ m →
+    refusalFor (basisOf t kept) (countsIn kept) (kindOf (lineOf s)) ≡ m
+read-answer t kept s {m} r e = answers t kept s (by-bytes m (refused-line (lineOf s) m e (not-counts r .0)))
 
 -- line reading refuses with them alone
-not-by-bytes : (s : List ℕ) (n k : ℕ) → lineOf s ≡ Refusal n → n ≡ k → (k ≡ 1 → ⊥) → (k ≡ 2 → ⊥) → (k ≡ 7 → ⊥) → (k ≡ 3 → ⊥) → ⊥
-not-by-bytes s n k e f a b c d =
-    ⊎-elim (λ (x : n ≡ 1). a (sym f ∙ x)) (⊎-elim (λ (x : n ≡ 2). b (sym f ∙ x)) (⊎-elim (λ (x : n ≡ 7). c (sym f ∙ x)) (λ (x : n ≡ 3). d (sym f ∙ x))))
-    (line-numbers s n e)
+by-reading : (s : List ℕ) (n : ℕ) → lineOf s ≡ Refusal n → Reading n
+by-reading s n e =
+    ⊎-elim (λ (x : n ≡ 1). subst Reading (sym x) one) (⊎-elim (λ (x : n ≡ 2). subst Reading (sym x) two)
+    (⊎-elim (λ (x : n ≡ 7). subst Reading (sym x) seven) (λ (x : n ≡ 3). subst Reading (sym x) three))) (line-numbers s n e)
 
-module _ {t : Terms} {n : Counts} {s : List ℕ} where
-  rule-bytes : {k m : ℕ} → Reading m → Judged t n s k → k ≡ m → lineRefusal (lineOf s) ≡ m
+module _ {t : Terms} {kept : List (List ℕ)} {s : List ℕ} where
+  rule-bytes : {k m : ℕ} → Reading m → Judged t kept s k → k ≡ m → lineRefusal (lineOf s) ≡ m
   rule-bytes r (by-bytes k e) f = ap lineRefusal e ∙ f
   rule-bytes r (five l h b) f = absurd (not-counts r .1 (sym f))
-  rule-bytes r (eight c o h b) f = absurd (not-counts r .2 (sym f))
+  rule-bytes r (twelve l h b m) f = absurd (not-counts r .2 (sym f))
+  rule-bytes r (eight c o h b) f = absurd (not-counts r .3 (sym f))
+  rule-bytes r (eleven i h b m) f = absurd (not-counts r .4 (sym f))
   rule-bytes r (fitting c h b) f = absurd (not-counts r .0 (sym f))
 
-  rule-5 : {k : ℕ} → Judged t n s k → k ≡ 5 → (l : Loan) × ShowsInRange s (loan l) × LoanBeyond (t .header) n (l .score)
-  rule-5 (by-bytes k e) f = absurd (not-by-bytes s k 5 e f (λ z. omega (arith, z)) (λ z. omega (arith, z)) (λ z. omega (arith, z)) (λ z. omega (arith, z)))
+  rule-5 : {k : ℕ} → Judged t kept s k → k ≡ 5 → (l : Loan) × ShowsInRange s (loan l) × LoanBeyond (t .header) (countsIn kept) (l .score)
+  rule-5 (by-bytes k e) f = absurd (not-counts (by-reading s k e) .1 f)
   rule-5 (five l h b) f = (l, h, b)
+  rule-5 (twelve l h b m) f = absurd (omega (arith, f))
   rule-5 (eight c o h b) f = absurd (omega (arith, f))
+  rule-5 (eleven i h b m) f = absurd (omega (arith, f))
   rule-5 (fitting c h b) f = absurd (omega (arith, f))
 
-  rule-8 : {k : ℕ} → Judged t n s k → k ≡ 8 → (c : Content) × OtherForm c × ShowsInRange s c × (100000 ≤ n .other)
-  rule-8 (by-bytes k e) f = absurd (not-by-bytes s k 8 e f (λ z. omega (arith, z)) (λ z. omega (arith, z)) (λ z. omega (arith, z)) (λ z. omega (arith, z)))
+  rule-12 : {k : ℕ} → Judged t kept s k → k ≡ 12 →
+      (l : Loan) × ShowsInRange s (loan l) × LoanFits (t .header) (countsIn kept) (l .score) × ValueMissing kept l
+  rule-12 (by-bytes k e) f = absurd (not-counts (by-reading s k e) .2 f)
+  rule-12 (five l h b) f = absurd (omega (arith, f))
+  rule-12 (twelve l h b m) f = (l, h, b, m)
+  rule-12 (eight c o h b) f = absurd (omega (arith, f))
+  rule-12 (eleven i h b m) f = absurd (omega (arith, f))
+  rule-12 (fitting c h b) f = absurd (omega (arith, f))
+
+  rule-8 : {k : ℕ} → Judged t kept s k → k ≡ 8 → (c : Content) × OtherForm c × ShowsInRange s c × (100000 ≤ countsIn kept .other)
+  rule-8 (by-bytes k e) f = absurd (not-counts (by-reading s k e) .3 f)
   rule-8 (five l h b) f = absurd (omega (arith, f))
+  rule-8 (twelve l h b m) f = absurd (omega (arith, f))
   rule-8 (eight c o h b) f = (c, o, h, b)
+  rule-8 (eleven i h b m) f = absurd (omega (arith, f))
   rule-8 (fitting c h b) f = absurd (omega (arith, f))
 
-  rule-0 : {k : ℕ} → Judged t n s k → k ≡ 0 → (c : Content) × ShowsInRange s c × Fits (t .header) n c
-  rule-0 (by-bytes k e) f = absurd (not-by-bytes s k 0 e f (λ z. omega (arith, z)) (λ z. omega (arith, z)) (λ z. omega (arith, z)) (λ z. omega (arith, z)))
+  rule-11 : {k : ℕ} → Judged t kept s k → k ≡ 11 →
+      (i : IndexValue) × ShowsInRange s (index i) × (countsIn kept .other < 100000) × IsSet kept (i .area) (i .month)
+  rule-11 (by-bytes k e) f = absurd (not-counts (by-reading s k e) .4 f)
+  rule-11 (five l h b) f = absurd (omega (arith, f))
+  rule-11 (twelve l h b m) f = absurd (omega (arith, f))
+  rule-11 (eight c o h b) f = absurd (omega (arith, f))
+  rule-11 (eleven i h b m) f = (i, h, b, m)
+  rule-11 (fitting c h b) f = absurd (omega (arith, f))
+
+  rule-0 : {k : ℕ} → Judged t kept s k → k ≡ 0 → (c : Content) × ShowsInRange s c × Fits (t .header) kept c
+  rule-0 (by-bytes k e) f = absurd (not-counts (by-reading s k e) .0 f)
   rule-0 (five l h b) f = absurd (omega (arith, f))
+  rule-0 (twelve l h b m) f = absurd (omega (arith, f))
   rule-0 (eight c o h b) f = absurd (omega (arith, f))
+  rule-0 (eleven i h b m) f = absurd (omega (arith, f))
   rule-0 (fitting c h b) f = (c, h, b)
 
 pub feeding-answer : (t : Terms) (a : Accepted) (s : List ℕ) → FeedingAnswer t a s (refusalOf t a s)
 feeding-answer t a s =
     let r : LineReading s (lineOf s) = line-reading s in
-    let n : Counts = countsIn (a .kept) in
-    let j : Judged t n s (refusalOf t a s) = judged-kind t n s (kindOf (lineOf s)) (kind-shown s) in
+    let kept : List (List ℕ) = a .kept in
+    let j : Judged t kept s (refusalOf t a s) = judged-kind t kept s (kindOf (lineOf s)) (kind-shown s) in
     record {
-      taken = (λ e. rule-0 j e, λ (c, h, f). answers t n s (fitting c h f));
-      number-1 = (λ e. r .refused1 .0 (rule-bytes one j e), λ e. read-answer t n s one (r .refused1 .1 e));
-      number-2 = (λ e. r .refused2 .0 (rule-bytes two j e), λ e. read-answer t n s two (r .refused2 .1 e));
+      taken = (λ e. rule-0 j e, λ (c, h, f). answers t kept s (fitting c h f));
+      number-1 = (λ e. r .refused1 .0 (rule-bytes one j e), λ e. read-answer t kept s one (r .refused1 .1 e));
+      number-2 = (λ e. r .refused2 .0 (rule-bytes two j e), λ e. read-answer t kept s two (r .refused2 .1 e));
       number-7 = (
         λ e. let (x, w, y) = r .refused7 .0 (rule-bytes seven j e) in (x, record { writable = w; bytes = y }),
-        λ (x, k). read-answer t n s seven ((r .refused7 .1 (x, k .writable, k .bytes))),
+        λ (x, k). read-answer t kept s seven ((r .refused7 .1 (x, k .writable, k .bytes))),
       );
       number-3 = (
         λ e. let (c, o, w, i, y) = r .refused3 .0 (rule-bytes three j e) in (c, o, record { writable = w; bytes = y }, i),
-        λ (c, o, k, i). read-answer t n s three ((r .refused3 .1 (c, o, k .writable, i, k .bytes))),
+        λ (c, o, k, i). read-answer t kept s three ((r .refused3 .1 (c, o, k .writable, i, k .bytes))),
       );
-      number-5 = (λ e. rule-5 j e, λ (l, h, b). answers t n s (five l h b));
-      number-8 = (λ e. rule-8 j e, λ (c, o, h, b). answers t n s (eight c o h b));
+      number-5 = (λ e. rule-5 j e, λ (l, h, b). answers t kept s (five l h b));
+      number-12 = (λ e. rule-12 j e, λ (l, h, b, m). answers t kept s (twelve l h b m));
+      number-8 = (λ e. rule-8 j e, λ (c, o, h, b). answers t kept s (eight c o h b));
+      number-11 = (λ e. rule-11 j e, λ (i, h, b, m). answers t kept s (eleven i h b m));
     }
 
 -- Closing

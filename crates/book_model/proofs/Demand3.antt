@@ -31,16 +31,21 @@ use Rattle.book_model.specs.Calls.{State, Answer, stateAt, emptyBook, op
 use Rattle.book_model.specs.Calls.{closingWith, closedWith, reportSize, reportOf}
 use Rattle.book_model.specs.Demand3.{figuresFor, reportFor, afterLines, hundredthsPerLoan, allowance, Writes, Closes, Measured, SameTexts}
 use Rattle.book_model.specs.Demand3.{SameReports, Demand3}
-use Rattle.book_model.specs.Exact.{requirement}
-use Rattle.book_model.specs.History.{History, opened, fed, allFed, termsOf, acceptedOf, linesTaken, sumsOf}
+use Rattle.book_model.specs.Exact.{requirementBy, requirement}
+use Rattle.book_model.specs.History.{History, opened, fed, allFed, termsOf, acceptedOf, linesTaken, sumsBy, sumsOf}
+use Rattle.book_model.specs.HouseIndex.{setBy, valuesIn}
+use Rattle.book_model.specs.LineKinds.{sumBy}
 use Rattle.book_model.specs.Share.{share}
-use Rattle.book_model.specs.Terms.{Terms, termsFor}
+use Rattle.book_model.specs.Terms.{Terms, Basis, basisOf, termsFor}
 use Rattle.book_model.proofs.Bounds.{Near}
 use Rattle.book_model.proofs.Closings.{untouched, writes, tells}
 use Rattle.book_model.proofs.Dependence.{requirement-determined}
 use Rattle.book_model.proofs.ExactSums.{rest-sum, moved-sum, rounded-is}
 use Rattle.book_model.proofs.Feeding.{opening-sound}
-use Rattle.book_model.proofs.Near.{rates-chargeable}
+use Rattle.book_model.proofs.IndexTables.{none-set}
+use Rattle.book_model.proofs.Ledger.{Good, in-hundredths, good-of}
+use Rattle.book_model.proofs.LineSums.{sum-permuted as line-sum-permuted}
+use Rattle.book_model.proofs.Near.{ChargeableBasis, rates-chargeable}
 use Rattle.book_model.proofs.Ranged.{ranged-header}
 use Rattle.book_model.proofs.Required.{requiredFor, near, list-exponents}
 use Rattle.book_model.proofs.Steps.{bookOf, stateOf, counts, step}
@@ -56,7 +61,7 @@ one-more past s = (refl, refl)
 pub fed-is : (past : History) (s : List ℕ) → feeding (stateOf (termsOf past) (acceptedOf past)) s .state ≡ stateOf (termsOf (fed past s))
     (acceptedOf (fed past s))
 unfolding termsOf acceptedOf
-fed-is past s = ap (λ (a : Answer). a .state) (step (termsOf past) (acceptedOf past) s)
+fed-is past s = ap (λ (a : Answer). a .state) (step (termsOf past) (acceptedOf past) (good-of past) s)
 
 chain : (past : History) (lines : List (List ℕ)) → afterLines (stateOf (termsOf past) (acceptedOf past)) lines ≡ stateOf (termsOf (allFed past lines))
     (acceptedOf (allFed past lines))
@@ -66,8 +71,10 @@ chain past (s ∷ lines) = ap (λ (x : State). afterLines x lines) (fed-is past 
 
 -- the state just opened has no line taken
 pub opened-is : (sheet header : List ℕ) → opening sheet header .state ≡ stateOf (termsOf (opened sheet header)) (acceptedOf (opened sheet header))
-unfolding sumsOf sumOf termsOf acceptedOf
-opened-is sheet header = let t = termsFor sheet (headerOf header) in ap (stateAt (emptyBook (t .header)) (t .rates)) (no-cells t)
+unfolding sumsBy sumOf sumBy termsOf acceptedOf
+opened-is sheet header =
+    let t = termsFor sheet (headerOf header) in
+    ap₂ (stateAt (emptyBook (t .header)) (t .rates)) (no-cells (basisOf t [])) none-set
 
 -- the terms of a list of lines are those of its header
 pub terms-stay : (past : History) (lines : List (List ℕ)) → termsOf (allFed past lines) ≡ termsOf past
@@ -93,7 +100,7 @@ pub report-is : (t : Terms) (kept : List (List ℕ)) → reportOf (bookOf t kept
 unfolding reportFor figuresFor figuresOf
 report-is t kept =
     ap₂ (λ (rest moved : ℕ). reportText (figuresFrom (t .header .held) rest moved (sumsOf t kept)))
-    (rounded-is (sumsOf t kept .rest) (rest-sum t kept)) (rounded-is (sumsOf t kept .moved) (moved-sum t kept))
+    (rounded-is (sumsOf t kept .rest) (rest-sum (basisOf t kept) kept)) (rounded-is (sumsOf t kept .moved) (moved-sum (basisOf t kept) kept))
 
 -- A list does not grow by an element and stay the same.
 not-itself : (kept : List (List ℕ)) (s : List ℕ) → kept ≡ kept ++ (s ∷ []) → ⊥
@@ -118,10 +125,10 @@ writes-of least t a text = record {
   told = λ size e. tells least (bookOf t (a .kept)) text size e;
 }
 
-pub closes-of : (t : Terms) (a : Accepted) → Closes t a (stateOf t a)
-closes-of t a = record {
-  answers = λ s. ap (λ (x : Answer). x .refusal) (step t a s);
-  taken = λ s. rw (ap (λ (x : Answer). x .refusal) (step t a s)) (grows t a s);
+pub closes-of : (t : Terms) (a : Accepted) → Good (a .kept) → Closes t a (stateOf t a)
+closes-of t a h = record {
+  answers = λ s. ap (λ (x : Answer). x .refusal) (step t a h s);
+  taken = λ s. rw (ap (λ (x : Answer). x .refusal) (step t a h s)) (grows t a s);
   report = rw (← report-is t (a .kept)) (writes-of reportSize t a (reportOf (bookOf t (a .kept))));
 }
 
@@ -130,7 +137,7 @@ closes-of t a = record {
 -- rest rounded up once is the same in the book and from the lines
 required-is : (t : Terms) (kept : List (List ℕ)) → requiredFor t kept ≡ figuresFor t kept .required
 unfolding figuresFor figuresOf
-required-is t kept = rw (rounded-is (sumsOf t kept .rest) (rest-sum t kept)) refl
+required-is t kept = rw (rounded-is (sumsOf t kept .rest) (rest-sum (basisOf t kept) kept)) refl
 
 regroup : (a b c d e f : List ℕ) → a ++ (b ++ c ++ d ++ e ++ f) ≡ (a ++ (b ++ c)) ++ d ++ (e ++ f)
 regroup a b c d e f = simp append-assoc
@@ -146,15 +153,20 @@ eighth f =
     regroup (headText f) (valueLine "rest" (unsigned (f .rest))) (valueLine "oper" (unsigned (f .oper)))
     (valueLine "required" (unsigned (f .required))) (valueLine "capital" (f .capital)) (ratioLine (f .ratio))
 
-near-taken : (t : Terms) → RatesInRange (t .rates) → (kept : List (List ℕ)) →
-    Eventually (λ x. Near (requirement t kept .value x) (figuresFor t kept .required) hundredthsPerLoan (countsIn kept .loans))
-near-taken t r kept = rw (required-is t kept) at (near hundredthsPerLoan (omega arith) (rates-chargeable t r) kept)
+-- the lines taken can be charged by their own index values
+taken-chargeable : (t : Terms) → RatesInRange (t .rates) → (kept : List (List ℕ)) → Good kept → ChargeableBasis (basisOf t kept)
+taken-chargeable t r kept h = record { factors = rates-chargeable t r; values = in-hundredths kept h }
 
-pub measured-of : (t : Terms) → RatesInRange (t .rates) → (kept : List (List ℕ)) → Measured t kept
-unfolding reportFor requirement
-measured-of t r kept =
+near-taken : (t : Terms) → RatesInRange (t .rates) → (kept : List (List ℕ)) → Good kept →
+    Eventually (λ x. Near (requirement t kept .value x) (figuresFor t kept .required) hundredthsPerLoan (countsIn kept .loans))
+near-taken t r kept h = rw (required-is t kept) at (near hundredthsPerLoan (omega arith) kept (taken-chargeable t r kept h) (h .settled))
+
+pub measured-of : (t : Terms) → RatesInRange (t .rates) → (kept : List (List ℕ)) → Good kept → Measured t kept
+unfolding reportFor requirementBy
+measured-of t r kept h =
     let f : Figures = figuresFor t kept in
-    let exponents = list-exponents (rates-chargeable t r) kept in
+    let u = taken-chargeable t r kept h in
+    let exponents = list-exponents u kept (h .settled) in
     record {
       required = f .required;
       before = headText f ++ (valueLine "rest" (unsigned (f .rest)) ++ valueLine "oper" (unsigned (f .oper)));
@@ -162,13 +174,13 @@ measured-of t r kept =
       line-eight = rw (← signed-whole (f .required)) (eighth f);
       read-back = digits-value (f .required);
       not-below = at-every-order (requirement t kept) (λ v. v ≼ whole (f .required)) exponents
-          (mapped (λ m n. (n .proper, n .not-below)) (near-taken t r kept));
+          (mapped (λ m n. (n .proper, n .not-below)) (near-taken t r kept h));
       close = at-every-order (requirement t kept) (λ v. whole (f .required) ≺ v ⊕ allowance (countsIn kept .loans)) exponents
-          (mapped (λ m n. (n .proper, n .close)) (near-taken t r kept));
+          (mapped (λ m n. (n .proper, n .close)) (near-taken t r kept h));
       both = at-every-order (requirement t kept) (λ v. (v ≼ whole (f .required)) × (whole (f .required) ≺ v ⊕ allowance (countsIn kept .loans))) exponents
-          (mapped (λ m n. (n .proper, (n .not-below, n .close))) (near-taken t r kept));
+          (mapped (λ m n. (n .proper, (n .not-below, n .close))) (near-taken t r kept h));
       orders = some-allowed (requirement t kept .exponents) exponents;
-      determined = requirement-determined (rates-chargeable t r) kept;
+      determined = requirement-determined u kept (h .settled);
     }
 
 -- Order
@@ -179,9 +191,18 @@ permuted-map f (List·Permᴰ·cons e p) = List·Permᴰ·cons (ap f e) (permute
 permuted-map f (List·Permᴰ·swap e g) = List·Permᴰ·swap (ap f e) (ap f g)
 permuted-map f (List·Permᴰ·trans p q) = List·Permᴰ·trans (permuted-map f p) (permuted-map f q)
 
+-- the same lines set the same values
+pub values-permuted : {kept others : List (List ℕ)} → List·Permᴰ kept others → valuesIn kept ≡ valuesIn others
+unfolding valuesIn
+values-permuted p = λ i area month. line-sum-permuted (setBy area month) p i
+
+pub basis-permuted : (t : Terms) {kept others : List (List ℕ)} → List·Permᴰ kept others → basisOf t kept ≡ basisOf t others
+basis-permuted t p = λ i. record { terms = t; index = values-permuted p i }
+
 sums-permuted : (t : Terms) {kept others : List (List ℕ)} → List·Permᴰ kept others → sumsOf t kept ≡ sumsOf t others
-unfolding sumsOf
-sums-permuted t p = sum-permuted (permuted-map (λ s. share t (lineContent (lineOf s))) p)
+unfolding sumsBy
+sums-permuted t {kept} {others} p =
+    ap (λ (g : Basis). sumsBy g kept) (basis-permuted t p) ∙ sum-permuted (permuted-map (λ s. share (basisOf t others) (lineContent (lineOf s))) p)
 
 -- the bytes written
 taken-text : (buffer text : List ℕ) → take (length text) (onto buffer text) ≡ text
@@ -205,7 +226,7 @@ same-texts least b c {text} {other} r x y e f =
 
 -- the report does not depend on the order
 pub report-permuted : (t : Terms) {kept others : List (List ℕ)} → List·Permᴰ kept others → reportOf (bookOf t kept) ≡ reportOf (bookOf t others)
-report-permuted t p = ap (λ (s : Sums). reportOf (record { header = t .header; sums = s })) (sums-permuted t p)
+report-permuted t p = ap (λ (s : Sums). reportText (figuresOf (t .header .held) s)) (sums-permuted t p)
 
 pub same-reports : (t : Terms) {kept others : List (List ℕ)} → List·Permᴰ kept others → SameReports (bookOf t kept) (bookOf t others)
 same-reports t {kept} {others} p = same-texts reportSize (bookOf t kept) (bookOf t others) (report-permuted t p)
@@ -213,8 +234,9 @@ same-reports t {kept} {others} p = same-texts reportSize (bookOf t kept) (bookOf
 pub demand3 : (sheet header : List ℕ) (lines : List (List ℕ)) → Demand3 sheet header lines
 demand3 sheet header lines =
     let t : Terms = termsOf (opened sheet header) in
+    let past : History = allFed (opened sheet header) lines in
     record {
-      closes = rw (after-is sheet header lines) (closes-of t (acceptedOf (allFed (opened sheet header) lines)));
-      measured = measured-of t (terms-in-range (opened sheet header)) (linesTaken (allFed (opened sheet header) lines));
+      closes = rw (after-is sheet header lines) (closes-of t (acceptedOf past) (good-of past));
+      measured = measured-of t (terms-in-range (opened sheet header)) (linesTaken past) (good-of past);
       alike = λ others p. rw (after-is sheet header lines, after-is sheet header others) (same-reports t p);
     }

@@ -13,12 +13,13 @@ use Rattle.loan_charge.proofs.Promise.{promise}
 use Rattle.line_forms.specs.declared.Content.{Content}
 use Rattle.line_forms.specs.Claims.{lineContent}
 use Rattle.line_forms.specs.Readings.{lineOf}
-use Rattle.book_model.specs.Exact.{exactShare, exactOf, exactRest, sumOver, exponentsOver, requirement}
+use Rattle.book_model.specs.Exact.{exactShare, exactOf, exactRest, sumOver, exponentsOver, requirementBy}
 use Rattle.book_model.specs.Ranges.{Ranged}
 use Rattle.book_model.specs.Requirement.{exactHome, exactOper, exactRequired}
-use Rattle.book_model.specs.Terms.{Terms, loanInputs}
+use Rattle.book_model.specs.Terms.{Basis, loanInputs}
+use Rattle.book_model.proofs.Adjustments.{Has, Settled}
 use Rattle.book_model.proofs.ExactSums.{rest-sum}
-use Rattle.book_model.proofs.Near.{ChargeableTerms, chargeable}
+use Rattle.book_model.proofs.Near.{ChargeableBasis, chargeable}
 use Rattle.book_model.proofs.Ranged.{ranged}
 use Rattle.book_model.proofs.Shapes.{Shape, of-loan, of-other, of-none, shape}
 
@@ -35,46 +36,47 @@ nothing-depends : {ys : List Fraction} → DependsOn ys (λ x. whole 0)
 nothing-depends = depends-constant (record { positive = omega arith })
 
 -- what a line adds to total and supplement
-module _ {t : Terms} (g : ChargeableTerms t) where
-  total-depends : (c : Content) → Ranged c → DependsOn (exactShare t c .total .exponents) (exactShare t c .total .value)
+module _ {g : Basis} (u : ChargeableBasis g) where
+  total-depends : (c : Content) → Ranged c → Has (g .index) c → DependsOn (exactShare g c .total .exponents) (exactShare g c .total .value)
   unfolding exactShare
-  total-depends c r = go (shape t c) r
+  total-depends c r h = go (shape g c) r h
     where
-      go : {c : Content} → Shape t c → Ranged c → DependsOn (exactShare t c .total .exponents) (exactShare t c .total .value)
-      go (of-loan l) r = promise .close (loanInputs t l) (chargeable g l r) .total-determined
-      go (of-other k a) r = rw (a .exactly) nothing-depends
-      go (of-none k a b) r = rw b nothing-depends
+      go : {c : Content} → Shape g c → Ranged c → Has (g .index) c → DependsOn (exactShare g c .total .exponents) (exactShare g c .total .value)
+      go (of-loan l) r h = promise .close (loanInputs g l) (chargeable u l r h) .total-determined
+      go (of-other k z a) r h = rw (a .exactly) nothing-depends
+      go (of-none k a b) r h = rw b nothing-depends
 
-  supplement-depends : (c : Content) → Ranged c → DependsOn (exactShare t c .total .exponents) (exactShare t c .supplement .value)
+  supplement-depends : (c : Content) → Ranged c → Has (g .index) c → DependsOn (exactShare g c .total .exponents) (exactShare g c .supplement .value)
   unfolding exactShare
-  supplement-depends c r = go (shape t c) r
+  supplement-depends c r h = go (shape g c) r h
     where
-      go : {c : Content} → Shape t c → Ranged c → DependsOn (exactShare t c .total .exponents) (exactShare t c .supplement .value)
-      go (of-loan l) r = depends-more (among (loanInputs t l)) (promise .close (loanInputs t l) (chargeable g l r) .supplement-determined)
-      go (of-other k a) r = rw (a .exactly) nothing-depends
-      go (of-none k a b) r = rw b nothing-depends
+      go : {c : Content} → Shape g c → Ranged c → Has (g .index) c → DependsOn (exactShare g c .total .exponents) (exactShare g c .supplement .value)
+      go (of-loan l) r h = depends-more (among (loanInputs g l)) (promise .close (loanInputs g l) (chargeable u l r h) .supplement-determined)
+      go (of-other k z a) r h = rw (a .exactly) nothing-depends
+      go (of-none k a b) r h = rw b nothing-depends
 
   -- sums over lines
-  totals-depend : (kept : List (List ℕ)) → DependsOn (exponentsOver t kept) (λ x. sumOver (λ s. exactOf t s .total .value x) kept)
-  unfolding sumOver exponentsOver
-  totals-depend [] = nothing-depends
-  totals-depend (s ∷ kept) =
-      depends-sum (depends-left (exponentsOver t kept) (total-depends (lineContent (lineOf s)) (ranged s)))
-      (depends-right (exactOf t s .total .exponents) (totals-depend kept))
+  totals-depend : (kept : List (List ℕ)) → Settled (g .index) kept → DependsOn (exponentsOver g kept) (λ x. sumOver (λ s. exactOf g s .total .value x) kept)
+  unfolding sumOver exponentsOver Settled
+  totals-depend [] h = nothing-depends
+  totals-depend (s ∷ kept) h =
+      depends-sum (depends-left (exponentsOver g kept) (total-depends (lineContent (lineOf s)) (ranged s) (h .0)))
+      (depends-right (exactOf g s .total .exponents) (totals-depend kept (h .1)))
 
-  supplements-depend : (kept : List (List ℕ)) → DependsOn (exponentsOver t kept) (λ x. sumOver (λ s. exactOf t s .supplement .value x) kept)
-  unfolding sumOver exponentsOver
-  supplements-depend [] = nothing-depends
-  supplements-depend (s ∷ kept) =
-      depends-sum (depends-left (exponentsOver t kept) (supplement-depends (lineContent (lineOf s)) (ranged s)))
-      (depends-right (exactOf t s .total .exponents) (supplements-depend kept))
+  supplements-depend : (kept : List (List ℕ)) → Settled (g .index) kept →
+      DependsOn (exponentsOver g kept) (λ x. sumOver (λ s. exactOf g s .supplement .value x) kept)
+  unfolding sumOver exponentsOver Settled
+  supplements-depend [] h = nothing-depends
+  supplements-depend (s ∷ kept) h =
+      depends-sum (depends-left (exponentsOver g kept) (supplement-depends (lineContent (lineOf s)) (ranged s) (h .0)))
+      (depends-right (exactOf g s .total .exponents) (supplements-depend kept (h .1)))
 
-  pub requirement-determined : (kept : List (List ℕ)) → Determined (requirement t kept)
-  unfolding requirement exactRequired exactOper exactHome
-  requirement-determined kept =
-      let rest : DependsOn (exponentsOver t kept) (λ x. exactRest t kept) = depends-constant (rest-sum t kept .proper) in
-      let home : DependsOn (exponentsOver t kept) (λ x. exactHome (sumOver (λ s. exactOf t s .total .value x) kept) (t .header .held)) =
-      depends-larger (depends-sum (totals-depend kept) (depends-constant (record { positive = omega arith }))) nothing-depends in
+  pub requirement-determined : (kept : List (List ℕ)) → Settled (g .index) kept → Determined (requirementBy g kept)
+  unfolding requirementBy exactRequired exactOper exactHome
+  requirement-determined kept h =
+      let rest : DependsOn (exponentsOver g kept) (λ x. exactRest g kept) = depends-constant (rest-sum g kept .proper) in
+      let home : DependsOn (exponentsOver g kept) (λ x. exactHome (sumOver (λ s. exactOf g s .total .value x) kept) (g .terms .header .held)) =
+      depends-larger (depends-sum (totals-depend kept h) (depends-constant (record { positive = omega arith }))) nothing-depends in
       depends-sum (depends-sum home rest)
-      (depends-product (depends-larger (depends-sum (depends-sum home rest) (depends-negated (supplements-depend kept))) nothing-depends)
+      (depends-product (depends-larger (depends-sum (depends-sum home rest) (depends-negated (supplements-depend kept h))) nothing-depends)
       (depends-constant (record { positive = omega arith })))

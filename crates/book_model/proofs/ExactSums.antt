@@ -19,31 +19,31 @@ use Rattle.figures.specs.Figures.{wholeCents}
 use Rattle.figures.specs.Sums.{sumOf, inParts, moneyOf, moneySum, noSums, plus}
 use Rattle.figures.proofs.SumsLaws.{money-whole, money-added}
 use Rattle.book_model.specs.Exact.{ExactShare, exactShare, exactRest, exactMoved, sumOver}
-use Rattle.book_model.specs.History.{sumsOf}
-use Rattle.book_model.specs.Share.{share, loanShare}
-use Rattle.book_model.specs.Terms.{Terms}
+use Rattle.book_model.specs.History.{sumsBy}
+use Rattle.book_model.specs.Share.{share, shareWith}
+use Rattle.book_model.specs.Terms.{Basis}
 use Rattle.book_model.proofs.Shapes.{Shape, of-loan, of-other, of-none, shape, no-parts}
 
 -- a line's amount from its charge in ten-millionths
 money-is : {x : Fraction} (n : ℕ) → InParts x n → InParts x (inParts (moneyOf n))
 money-is n h = rw (money-whole n) h
 
-rest-is : (t : Terms) (c : Content) → InParts (exactShare t c .rest) (inParts (share t c .rest))
-unfolding exactShare share loanShare
-rest-is t c = go (shape t c)
+rest-is : (g : Basis) (c : Content) → InParts (exactShare g c .rest) (inParts (share g c .rest))
+unfolding exactShare share shareWith
+rest-is g c = go (shape g c)
   where
-    go : {c : Content} → Shape t c → InParts (exactShare t c .rest) (inParts (share t c .rest))
+    go : {c : Content} → Shape g c → InParts (exactShare g c .rest) (inParts (share g c .rest))
     go (of-loan l) = no-parts
-    go (of-other k a) = rw (a .sums, a .exactly) (money-is (a .rest) (a .rest-is))
+    go (of-other k z a) = rw (a .sums, a .exactly) (money-is (a .rest) (a .rest-is))
     go (of-none k a b) = rw (a, b) no-parts
 
-moved-is : (t : Terms) (c : Content) → InParts (exactShare t c .moved) (inParts (share t c .moved))
-unfolding exactShare share loanShare
-moved-is t c = go (shape t c)
+moved-is : (g : Basis) (c : Content) → InParts (exactShare g c .moved) (inParts (share g c .moved))
+unfolding exactShare share shareWith
+moved-is g c = go (shape g c)
   where
-    go : {c : Content} → Shape t c → InParts (exactShare t c .moved) (inParts (share t c .moved))
+    go : {c : Content} → Shape g c → InParts (exactShare g c .moved) (inParts (share g c .moved))
     go (of-loan l) = no-parts
-    go (of-other k a) = rw (a .sums, a .exactly) (money-is (a .moved) (a .moved-is))
+    go (of-other k z a) = rw (a .sums, a .exactly) (money-is (a .moved) (a .moved-is))
     go (of-none k a b) = rw (a, b) no-parts
 
 -- two amounts together
@@ -56,22 +56,22 @@ added {x} {y} {m} {n} h k =
     }
 
 -- A sum over lines, given for each line: `exact` takes it from what a line adds exactly, `amount` from the sums.
-module _ (t : Terms) (exact : ExactShare → Fraction) (amount : Sums → Money)
+module _ (g : Basis) (exact : ExactShare → Fraction) (amount : Sums → Money)
     (empty : inParts (amount noSums) ≡ 0)
     (joined : (x y : Sums) → amount (plus x y) ≡ moneySum (amount x) (amount y))
-    (each : (c : Content) → InParts (exact (exactShare t c)) (inParts (amount (share t c)))) where
-  sum-is : (kept : List (List ℕ)) → InParts (sumOver (λ s. exact (exactShare t (lineContent (lineOf s)))) kept) (inParts (amount (sumsOf t kept)))
-  unfolding sumOver sumsOf sumOf
+    (each : (c : Content) → InParts (exact (exactShare g c)) (inParts (amount (share g c)))) where
+  sum-is : (kept : List (List ℕ)) → InParts (sumOver (λ s. exact (exactShare g (lineContent (lineOf s)))) kept) (inParts (amount (sumsBy g kept)))
+  unfolding sumOver sumsBy sumOf
   sum-is [] = rw empty no-parts
   sum-is (s ∷ kept) =
-      rw (joined (share t (lineContent (lineOf s))) (sumsOf t kept), money-added (amount (share t (lineContent (lineOf s)))) (amount (sumsOf t kept)))
+      rw (joined (share g (lineContent (lineOf s))) (sumsBy g kept), money-added (amount (share g (lineContent (lineOf s)))) (amount (sumsBy g kept)))
       (added (each (lineContent (lineOf s))) (sum-is kept))
 
-pub rest-sum : (t : Terms) (kept : List (List ℕ)) → InParts (exactRest t kept) (inParts (sumsOf t kept .rest))
-rest-sum t kept = sum-is t (λ x. x .rest) (λ s. s .rest) refl (λ x y. refl) (rest-is t) kept
+pub rest-sum : (g : Basis) (kept : List (List ℕ)) → InParts (exactRest g kept) (inParts (sumsBy g kept .rest))
+rest-sum g kept = sum-is g (λ x. x .rest) (λ s. s .rest) refl (λ x y. refl) (rest-is g) kept
 
-pub moved-sum : (t : Terms) (kept : List (List ℕ)) → InParts (exactMoved t kept) (inParts (sumsOf t kept .moved))
-moved-sum t kept = sum-is t (λ x. x .moved) (λ s. s .moved) refl (λ x y. refl) (moved-is t) kept
+pub moved-sum : (g : Basis) (kept : List (List ℕ)) → InParts (exactMoved g kept) (inParts (sumsBy g kept .moved))
+moved-sum g kept = sum-is g (λ x. x .moved) (λ s. s .moved) refl (λ x y. refl) (moved-is g) kept
 
 -- Rounded up once, the sums are the exact amounts rounded up.
 pub rounded-is : {x : Fraction} (m : Money) → InParts x (inParts m) → wholeCents m ≡ ceiling x

@@ -24,7 +24,7 @@ use Rattle.book_model.specs.LineKinds.{contentKind, kindCounts}
 use Rattle.book_model.specs.Accepted.{countsIn, refusalFor, accept}
 use Rattle.book_model.specs.Exact.{exactAmount, exactShare, sumOver}
 use Rattle.book_report.specs.Report.{ratioLine, reportText}
-use Rattle.book_model.specs.History.{termsOf, acceptedOf, allFed, sumsOf, opened, linesTaken}
+use Rattle.book_model.specs.History.{termsOf, acceptedOf, allFed, sumsBy, opened, linesTaken}
 use Rattle.book_model.specs.Calls.{openingRefusal, opening, closing}
 use Rattle.book_model.specs.Demand3.{figuresFor, reportFor, afterLines}
 use Rattle.book_model.specs.Terms.{termsFor}
@@ -56,7 +56,7 @@ worked : reportFor (termsOf (opened builtInSheet workedHeader)) workedLines ≡ 
 unfolding allWithin runOf same after isNumeral valueFrom headerInRange moneyInRange assetInRange amountInRange numberAt afterNumber afterNegative signedAt
     afterSigned placeOf afterWord headerHeld assetHeld plainHeld signedHeld amountHeld contentOf lineFor lineOf headerFor headerOf termsFor termsOf
     builtInSheet placePasses placesPass sheetPasses
-    ceiling assetCharge shareCharge exactAmount exactShare sumOver kindCounts contentKind share assetShare amountShare sumOf sumsOf requiredOf admitted
+    ceiling assetCharge shareCharge exactAmount exactShare sumOver kindCounts contentKind share assetShare amountShare sumOf sumsBy requiredOf admitted
     capitalOf ratioSize ratioOf figuresFor reportFor ratioLine reportText leading digits signed
 worked = refl
 

@@ -7,6 +7,7 @@ use native.Mathlib.Omega.{arith}
 use lib.Dec.{T, eqb, leb, eqb→eq}
 use borrow.Author.Tests.{leb-false}
 use Rattle.exact.specs.Choice.{pick}
+use Rattle.loan_charge.specs.Charge.{Chargeable}
 use Rattle.loan_charge.specs.CreditFactor.{RatesInRange}
 use Rattle.loan_charge.specs.declared.Score.{Score}
 use Rattle.loan_charge.specs.declared.Score.the-variants.{Scored, Unscored}
@@ -24,20 +25,25 @@ use Rattle.figures.specs.declared.Counts.{Counts}
 use Rattle.figures.specs.declared.Sums.{Sums}
 use Rattle.figures.specs.Sums.{Bounded, InLimits, countsSum, plus, noSums}
 use Rattle.figures.proofs.SumsLaws.{plus-bounded, none-bounded, plus-none}
+use Rattle.cell_report.specs.CellReport.{placeOf}
+use Rattle.book_model.specs.declared.Adjustment.{Adjustment}
 use Rattle.book_model.specs.declared.Book.{Book}
 use Rattle.book_model.specs.Accepted.{mostOther, loanBeyond, refusalFor}
-use Rattle.book_model.specs.Calls.{State, Answer, stateAt, termsIn, emptyBook, emptyState, openingFor, refusalIn, bookAfter, cellsAfter, feedingLine}
-use Rattle.book_model.specs.Calls.{SoundBook, Sound}
-use Rattle.book_model.specs.Cells.{loanBand, loanLtv, loanCell, withCell, cellsWith, CellsBounded}
-use Rattle.book_model.specs.LineKinds.{LineKind, a-loan, another, refused, contentKind, kindOf, kindCounts, unscoredCount}
+use Rattle.book_model.specs.Calls.{State, Answer, stateAt, termsIn, basisIn, countsOf, emptyBook, emptyState, openingFor, refusalIn, bookAfter}
+use Rattle.book_model.specs.Calls.{cellsAfter, indexAfter, feedingLine, SoundBook, Sound}
+use Rattle.book_model.specs.Cells.{loanBand, loanLtv, cellWith, loanCell, withCell, cellsWith, CellsBounded}
+use Rattle.book_model.specs.HouseIndex.{adjustmentOf, placeFor, valuesAt, indexWith, indexLine, IndexSound}
+use Rattle.book_model.specs.LineKinds.{LineKind, a-loan, an-index, another, refused, contentKind, kindOf, kindCounts, unscoredCount, withIndexed}
 use Rattle.book_model.specs.Ranges.{LoanRanges, CellRanges, Ranged, HeaderRanges, RangedHeader}
-use Rattle.book_model.specs.Share.{loanShare, share}
-use Rattle.book_model.specs.Terms.{Terms, under, underSheet, refusedTerms}
-use Rattle.cell_report.specs.CellReport.{placeOf}
+use Rattle.book_model.specs.Share.{shareWith, share}
+use Rattle.book_model.specs.Terms.{Terms, Basis, underSheet, refusedTerms, inputsWith}
+use Rattle.book_model.proofs.Adjustments.{Has, InHundredths}
 use Rattle.book_model.proofs.BoundedShares.{loan-bounded, share-bounded, counted}
 use Rattle.book_model.proofs.Cells.{Held, a-loan as held-loan, no-loan, held, bounded-wider, cell-more, none-bounded as no-cells-bounded}
+use Rattle.book_model.proofs.IndexTables.{none-sound, index-sound}
+use Rattle.book_model.proofs.Ledger.{taken-loan, taken-index, taken-has, taken-unset}
+use Rattle.book_model.proofs.Near.{ChargeableBasis, rates-chargeable, chargeable}
 use Rattle.book_model.proofs.Openings.{sheet-passes, sheet-fails, header-fails, Case, book-opens, sheet-refused, header-refused, caseOf}
-use Rattle.book_model.proofs.Near.{ChargeableTerms, rates-chargeable}
 
 -- Opening
 
@@ -55,7 +61,7 @@ empty-sound h r =
 
 -- just opened under rates in range
 empty-state : (t : Terms) → HeaderRanges (t .header) → RatesInRange (t .rates) → Sound (emptyState t)
-empty-state t h r = record { book = empty-sound (t .header) h; rates = r; cells = no-cells-bounded 0 }
+empty-state t h r = record { book = empty-sound (t .header) h; rates = r; cells = no-cells-bounded 0; index = none-sound }
 
 pub refused-sound : Sound (emptyState refusedTerms)
 refused-sound = empty-state refusedTerms (record { loans = omega arith; unscored = omega arith; held = omega arith }) built-in
@@ -82,13 +88,9 @@ neither : (a b : Bool) → (a || b) ≡ false → (a ≡ false) × (b ≡ false)
 neither true b e = absurd (subst (λ (t : Bool). T t) e tt)
 neither false b e = (refl, e)
 
--- a test that gave no refusal
-passed : (test : Bool) (k : ℕ) → (k ≡ 0 → ⊥) → pick test k 0 ≡ 0 → test ≡ false
-passed true k z e = absurd (z e)
-passed false k z e = refl
-
-loan-room : (h : Header) (c : Counts) (s : Score) → Room h c → loanBeyond h c s ≡ false → Room h (countsSum c (kindCounts (a-loan s)))
-unfolding kindCounts unscoredCount
+loan-room : (h : Header) (c : Counts) (s : Score) → Room h c → loanBeyond h c s ≡ false →
+    Room h (countsSum c (record { loans = 1; unscored = unscoredCount s; other = 0 }))
+unfolding unscoredCount
 loan-room h c (Scored number age) r e =
     record {
       loans = omega (arith, leb-false (h .loans) (c .loans) (neither (leb (h .loans) (c .loans)) false e .0));
@@ -105,48 +107,66 @@ loan-room h c Unscored r e =
           omega (arith, r .other);
     }
 
--- A line that is not refused keeps to the counts.
-pub room : (t : Terms) (c : Counts) (k : LineKind) → Room (t .header) c → refusalFor t c k ≡ 0 → Room (t .header) (countsSum c (kindCounts k))
-unfolding refusalFor kindCounts
-room t c (a-loan s) r e = loan-room (t .header) c s r (passed (loanBeyond (t .header) c s) 5 (λ z. omega (arith, z)) e)
-room t c another r e =
-    let x : leb mostOther (c .other) ≡ false = passed (leb mostOther (c .other)) 8 (λ z. omega (arith, z)) e in
-    record { loans = omega (arith, r .loans); unscored = omega (arith, r .unscored); other = omega (arith, leb-false mostOther (c .other) x) }
-room t c (refused n) r e = record { loans = omega (arith, r .loans); unscored = omega (arith, r .unscored); other = omega (arith, r .other) }
+-- a test that gave no refusal
+single : (test : Bool) (k : ℕ) → (k ≡ 0 → ⊥) → pick test k 0 ≡ 0 → test ≡ false
+single true k z e = absurd (z e)
+single false k z e = refl
 
-pub book-room : {b : Book} → SoundBook b → Room (b .header) (b .sums .counts)
+-- one line more that is not a loan
+other-room : (h : Header) (c : Counts) → Room h c → leb mostOther (c .other) ≡ false → Room h (countsSum c (record { loans = 0; unscored = 0; other = 1 }))
+other-room h c r e =
+    record { loans = omega (arith, r .loans); unscored = omega (arith, r .unscored); other = omega (arith, leb-false mostOther (c .other) e) }
+
+-- A line that is not refused keeps to the counts.
+pub room : (g : Basis) (c : Counts) (k : LineKind) → Room (g .terms .header) c → refusalFor g c k ≡ 0 → Room (g .terms .header) (countsSum c (kindCounts k))
+unfolding refusalFor kindCounts
+room g c (a-loan l) r e = loan-room (g .terms .header) c (l .score) r (taken-loan g c l e .0)
+room g c (an-index i) r e = other-room (g .terms .header) c r (taken-index g c i e .0)
+room g c another r e = other-room (g .terms .header) c r (single (leb mostOther (c .other)) 8 (λ z. omega (arith, z)) e)
+room g c (refused n) r e = record { loans = omega (arith, r .loans); unscored = omega (arith, r .unscored); other = omega (arith, r .other) }
+
+pub book-room : {b : Book} → SoundBook b → Room (b .header) (countsOf b)
 book-room h = record { loans = h .loans; unscored = h .unscored; other = h .other }
 
--- What adding a line's sums asks.
-pub asks : {b : Book} {s : Sums} → SoundBook b → Bounded s → Room (b .header) (countsSum (b .sums .counts) (s .counts)) → Bounded (b .sums) × Bounded s
-    × InLimits (plus (b .sums) s)
-asks h k r = (h .bounded, k, record { loans = omega (arith, r .loans, h .header-loans); other = r .other })
+-- A line's sums, and 1 for an index line, keep to the counts of a book.
+abbrev pub Keeps : Book → Sums → ℕ → Type 0
+Keeps b s k = Room (b .header) (countsSum (countsOf b) (withIndexed (s .counts) k))
 
-more-sound : {b : Book} {s : Sums} → SoundBook b → Bounded s → Room (b .header) (countsSum (b .sums .counts) (s .counts)) →
-    SoundBook (record { header = b .header; sums = plus (b .sums) s })
-more-sound h k r =
+-- What adding a line's sums asks.
+pub asks : {b : Book} {s : Sums} (k : ℕ) → SoundBook b → Bounded s → Keeps b s k → Bounded (b .sums) × Bounded s × InLimits (plus (b .sums) s)
+asks k h n r = (h .bounded, n, record { loans = omega (arith, r .loans, h .header-loans); other = omega (arith, r .other) })
+
+more-sound : {b : Book} {s : Sums} (k : ℕ) → SoundBook b → Bounded s → Keeps b s k →
+    SoundBook (record { header = b .header; sums = plus (b .sums) s; indexed = b .indexed + k })
+more-sound k h n r =
     record {
-      bounded = plus-bounded (h .bounded) k;
+      bounded = plus-bounded (h .bounded) n;
       loans = r .loans;
       unscored = r .unscored;
-      other = r .other;
+      other = omega (arith, r .other);
       header-loans = h .header-loans;
       header-unscored = h .header-unscored;
       held = h .held;
     }
 
-pub line-bounded : {rates : _} (h : Header) → RatesInRange rates → (c : Content) → Ranged c → Bounded (share (under h rates) c)
-line-bounded {rates} h g c r = share-bounded (rates-chargeable (under h rates) g) c r
+-- The values of a table are in range.
+pub table-hundredths : {table : List ℕ} {n : ℕ} → IndexSound table n → InHundredths (valuesAt table)
+table-hundredths h area month = h .each (placeFor area month)
+
+pub state-chargeable : (s : State) → Sound s → ChargeableBasis (basisIn s)
+state-chargeable s h = record { factors = rates-chargeable (termsIn s) (h .rates); values = table-hundredths (h .index) }
 
 -- the counts with a line more
 room-line : (s : State) (l : Line) → SoundBook (s .book) → refusalIn s l ≡ 0 →
-    Room (s .book .header) (countsSum (s .book .sums .counts) (share (termsIn s) (lineContent l) .counts))
-room-line s l h e = rw (counted (termsIn s) (lineRefusal l) (lineContent l)) (room (termsIn s) (s .book .sums .counts) (kindOf l) (book-room h) e)
+    Keeps (s .book) (share (basisIn s) (lineContent l)) (indexLine (lineContent l))
+room-line s l h e =
+    subst (λ (c : Counts). Room (s .book .header) (countsSum (countsOf (s .book)) c)) (sym (counted (basisIn s) (lineRefusal l) (lineContent l)))
+    (room (basisIn s) (countsOf (s .book)) (kindOf l) (book-room h) e)
 
-pub cell-ranges : {t : Terms} → ChargeableTerms t → (l : Loan) → LoanRanges l → CellRanges (loanCell t l)
-unfolding loanShare kindCounts
-cell-ranges {t} g l r =
-    let k : Bounded (loanShare t l) = loan-bounded g l r in
+pub cell-ranges : (t : Terms) (a : Adjustment) (l : Loan) → LoanRanges l → Chargeable (inputsWith t a l) → CellRanges (cellWith t a l)
+unfolding shareWith kindCounts
+cell-ranges t a l r c =
+    let k : Bounded (shareWith t a l) = loan-bounded t a l c in
     record {
       count = omega arith;
       balance = omega (arith, r .balance-most);
@@ -155,42 +175,57 @@ cell-ranges {t} g l r =
     }
 
 -- The table with what a line adds, and the loans counted with it.
-cells-more : {t : Terms} (cells : List ℕ) (n : ℕ) → ChargeableTerms t → (c : Content) → Ranged c → CellsBounded cells (4 * n) →
-    CellsBounded (cellsWith t c cells) (4 * (n + share t c .counts .loans))
-unfolding cellsWith share loanShare kindCounts
-cells-more {t} cells n g c r b = go (held c) r
+cells-more : {g : Basis} (cells : List ℕ) (n : ℕ) → ChargeableBasis g → (c : Content) → Ranged c → Has (g .index) c → CellsBounded cells (4 * n) →
+    CellsBounded (cellsWith g c cells) (4 * (n + share g c .counts .loans))
+unfolding cellsWith share shareWith kindCounts
+cells-more {g} cells n u c r h b = go (held c) r h
   where
-    go : {c : Content} → Held c → Ranged c → CellsBounded (cellsWith t c cells) (4 * (n + share t c .counts .loans))
-    go (held-loan l) r = cell-more cells _ n (loanCell t l) (cell-ranges g l r) b
-    go (no-loan e) r = rw (e (List ℕ) (λ l. withCell cells (placeOf (loanBand l) (loanLtv l)) (loanCell t l)) cells) (bounded-wider cells (omega arith) b)
+    go : {c : Content} → Held c → Ranged c → Has (g .index) c → CellsBounded (cellsWith g c cells) (4 * (n + share g c .counts .loans))
+    go (held-loan l) r h =
+        cell-more cells _ n (loanCell g l) (cell-ranges (g .terms) (adjustmentOf (g .index) l) l r (chargeable u l r h)) b
+    go (no-loan e) r h =
+        rw (e (List ℕ) (λ l. withCell cells (placeOf (loanBand l) (loanLtv (g .index) l)) (loanCell g l)) cells) (bounded-wider cells (omega arith) b)
 
 pub fed-sound : (s : State) (l : Line) → Sound s → Ranged (lineContent l) → Sound (feedingLine s l .state)
-unfolding feedingLine bookAfter cellsAfter
+unfolding feedingLine bookAfter cellsAfter indexAfter
 fed-sound s l h r = go (eqb (refusalIn s l) 0) refl
   where
     go : (t : Bool) → eqb (refusalIn s l) 0 ≡ t → Sound
-        (stateAt (pick t (record { header = s .book .header; sums = plus (s .book .sums) (share (termsIn s) (lineContent l)) }) (s .book)) (s .rates)
-        (pick t (cellsWith (termsIn s) (lineContent l) (s .cells)) (s .cells)))
-    go true e =
+        (stateAt (pick t (record {
+          header = s .book .header;
+          sums = plus (s .book .sums) (share (basisIn s) (lineContent l));
+          indexed = s .book .indexed + indexLine (lineContent l);
+        }) (s .book)) (s .rates)
+        (pick t (cellsWith (basisIn s) (lineContent l) (s .cells)) (s .cells))
+        (pick t (indexWith (lineContent l) (s .index)) (s .index)))
+    go true f =
+        let e : refusalIn s l ≡ 0 = eqb→eq (refusalIn s l) 0 (subst (λ (t : Bool). T t) (sym f) tt) in
+        let u = state-chargeable s h in
+        let has : Has (valuesAt (s .index)) (lineContent l) = taken-has (basisIn s) (countsOf (s .book)) (lineRefusal l) (lineContent l) e in
         record {
-          book =
-              more-sound (h .book) (line-bounded (s .book .header) (h .rates) (lineContent l) r)
-              (room-line s l (h .book) (eqb→eq (refusalIn s l) 0 (subst (λ (t : Bool). T t) (sym e) tt)));
+          book = more-sound (indexLine (lineContent l)) (h .book) (share-bounded u (lineContent l) r has) (room-line s l (h .book) e);
           rates = h .rates;
-          cells = cells-more (s .cells) (s .book .sums .counts .loans) (rates-chargeable (termsIn s) (h .rates)) (lineContent l) r (h .cells);
+          cells = cells-more (s .cells) (s .book .sums .counts .loans) u (lineContent l) r has (h .cells);
+          index = index-sound (lineContent l) r (taken-unset (basisIn s) (countsOf (s .book)) (lineRefusal l) e) (h .index);
         }
-    go false e = h
+    go false f = h
 
 -- A line refused by its bytes adds nothing, whatever its number.
 pub fed-refused : (s : State) (n : ℕ) → record { refusal = n; state = s } ≡ feedingLine s (Refusal n)
-unfolding feedingLine bookAfter cellsAfter cellsWith refusalFor contentKind share
+unfolding feedingLine bookAfter cellsAfter cellsWith indexAfter indexWith refusalFor contentKind share
 fed-refused s n = go (eqb n 0)
   where
     go : (test : Bool) → _≡_ {A = Answer} (record { refusal = n; state = s })
         (record {
           refusal = n;
-          state = stateAt (pick test (record { header = s .book .header; sums = plus (s .book .sums) noSums }) (s .book)) (s .rates)
-              (pick test (s .cells) (s .cells));
+          state = stateAt (pick test (record { header = s .book .header; sums = plus (s .book .sums) noSums; indexed = s .book .indexed + 0 }) (s .book))
+              (s .rates)
+              (pick test (s .cells) (s .cells)) (pick test (s .index) (s .index));
         })
-    go true = λ i. record { refusal = n; state = stateAt (record { header = s .book .header; sums = sym (plus-none (s .book .sums)) i }) (s .rates) (s .cells) }
+    go true =
+        let z : s .book .indexed ≡ s .book .indexed + 0 = omega arith in
+        λ i. record {
+          refusal = n;
+          state = stateAt (record { header = s .book .header; sums = sym (plus-none (s .book .sums)) i; indexed = z i }) (s .rates) (s .cells) (s .index);
+        }
     go false = refl

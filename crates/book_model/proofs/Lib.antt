@@ -1,3 +1,5 @@
+pub mod AdjustedValues
+pub mod Adjustments
 pub mod Bands
 pub mod BoundedShares
 pub mod Bounds
@@ -10,12 +12,16 @@ pub mod Demand3
 pub mod ExactSums
 pub mod Examples
 pub mod Feeding
+pub mod IndexTables
+pub mod Ledger
+pub mod LineSums
 pub mod LoanTable
 pub mod Openings
 pub mod OwnFactors
 pub mod Near
 pub mod Ranged
 pub mod Required
+pub mod SetValues
 pub mod Shapes
 pub mod Steps
 pub mod Tables

@@ -1,7 +1,7 @@
 -- Request L1 over the definitions: the table is that of the loans taken, cell by cell. Assumes nothing.
 use mathlib.Core.Path.{_≡_, refl, sym, _∙_, ap, ap₂}
 use mathlib.Core.Bool.{Bool, true, false, _&&_, true≢false, false≢true}
-use mathlib.Core.List.{List, [], _∷_, List·Permᴰ, List·Permᴰ·nil, List·Permᴰ·cons, List·Permᴰ·swap, List·Permᴰ·trans}
+use mathlib.Core.List.{List, [], _∷_, List·Permᴰ}
 use Prim.Native.Nat.{ℕ, zero, suc, _+_, _≤_, _<_}
 use native.Mathlib.Omega.{arith}
 use lib.Dec.{eqb}
@@ -14,7 +14,7 @@ use Rattle.line_forms.specs.declared.Content.{Content}
 use Rattle.line_forms.specs.declared.Content.the-variants.{Loan as loan}
 use Rattle.line_forms.specs.declared.Line.{Line}
 use Rattle.line_forms.specs.declared.Line.the-variants.{Loan as LoanLine, Policy as PolicyLine, Derivative as DerivativeLine, Asset as AssetLine}
-use Rattle.line_forms.specs.declared.Line.the-variants.{Amount as AmountLine, Refusal}
+use Rattle.line_forms.specs.declared.Line.the-variants.{Amount as AmountLine, Index as IndexLine, Refusal}
 use Rattle.line_forms.specs.Claims.{ShowsInRange, lineContent}
 use Rattle.line_forms.specs.Readings.{lineOf}
 use Rattle.line_forms.proofs.LineLaws.{line-accepted}
@@ -25,32 +25,19 @@ use Rattle.book_model.specs.Accepted.{Accepted}
 use Rattle.book_model.specs.Calls.{cellsSize, cellsTextOf}
 use Rattle.book_model.specs.Cells.{loanBand, loanLtv, ofLoan, loanCell}
 use Rattle.book_model.specs.Demand3.{figuresFor}
-use Rattle.book_model.specs.History.{opened, allFed, termsOf, acceptedOf, linesTaken, sumsOf}
-use Rattle.book_model.specs.LineKinds.{kindCounts}
-use Rattle.book_model.specs.LoanTable.{sumBy, inCell, CellAdds, cellFor, cellsFor, sumTo, overCells, CellSums, WritesCells, SameTables, LoanTable}
-use Rattle.book_model.specs.Share.{loanNumbers, loanShare, share}
-use Rattle.book_model.specs.Terms.{Terms}
+use Rattle.book_model.specs.History.{opened, allFed, termsOf, acceptedOf, linesTaken, sumsBy}
+use Rattle.book_model.specs.HouseIndex.{Index}
+use Rattle.book_model.specs.LineKinds.{kindCounts, sumBy}
+use Rattle.book_model.specs.LoanTable.{inCell, CellAdds, cellBy, cellsFor, sumTo, overCells, CellSums, WritesCells, SameTables, LoanTable}
+use Rattle.book_model.specs.Share.{loanNumbers, shareWith, share}
+use Rattle.book_model.specs.Terms.{Terms, Basis, basisOf}
 use Rattle.book_model.proofs.Bands.{bands, columns}
-use Rattle.book_model.proofs.Cells.{Between, band-between, ltv-between, Held, a-loan, no-loan, held}
-use Rattle.book_model.proofs.Demand3.{after-is, writes-of, same-texts}
+use Rattle.book_model.proofs.Cells.{Between, band-between, loan-ltv-between, Held, a-loan, no-loan, held}
+use Rattle.book_model.proofs.Demand3.{after-is, writes-of, basis-permuted, same-texts}
+use Rattle.book_model.proofs.LineSums.{sum-alike, sum-permuted}
 use Rattle.book_model.proofs.Shapes.{Shape, of-loan, of-other, of-none, shape}
 use Rattle.book_model.proofs.Steps.{bookOf, stateOf}
 use Rattle.book_model.proofs.Tables.{placed, placedBy, cellsOf, cells-at, place-room}
-
--- Sums over the lines
-
-sum-alike : {f g : Content → ℕ} → ((c : Content) → f c ≡ g c) → (kept : List (List ℕ)) → sumBy f kept ≡ sumBy g kept
-unfolding sumBy
-sum-alike e [] = refl
-sum-alike e (s ∷ kept) = ap₂ _+_ (e (lineContent (lineOf s))) (sum-alike e kept)
-
-sum-permuted : (f : Content → ℕ) {kept others : List (List ℕ)} → List·Permᴰ kept others → sumBy f kept ≡ sumBy f others
-unfolding sumBy
-sum-permuted f List·Permᴰ·nil = refl
-sum-permuted f (List·Permᴰ·cons e p) = ap₂ (λ (s : List ℕ) (n : ℕ). f (lineContent (lineOf s)) + n) e (sum-permuted f p)
-sum-permuted f (List·Permᴰ·swap {a} {b} {a′} {b′} {l} e g) =
-    omega (arith, ap (λ (s : List ℕ). f (lineContent (lineOf s))) e, ap (λ (s : List ℕ). f (lineContent (lineOf s))) g)
-sum-permuted f (List·Permᴰ·trans p q) = sum-permuted f p ∙ sum-permuted f q
 
 -- The four places of a cell
 
@@ -124,22 +111,22 @@ both true true e = (refl, refl)
 both true false e = absurd (false≢true e)
 both false b e = absurd (false≢true e)
 
-module _ (band ltv : ℕ) (l : Loan) (b : Between 1 12 band) (k : Between 1 5 ltv) where
-  same-cell : (eqb (loanBand l) band && eqb (loanLtv l) ltv) ≡ true → placeOf (loanBand l) (loanLtv l) ≡ placeOf band ltv
+module _ (values : Index) (band ltv : ℕ) (l : Loan) (b : Between 1 12 band) (k : Between 1 5 ltv) where
+  same-cell : (eqb (loanBand l) band && eqb (loanLtv values l) ltv) ≡ true → placeOf (loanBand l) (loanLtv values l) ≡ placeOf band ltv
   same-cell e =
-      let (x, y) = both (eqb (loanBand l) band) (eqb (loanLtv l) ltv) e in
-      ap₂ placeOf (eqb-true (loanBand l) band x) (eqb-true (loanLtv l) ltv y)
+      let (x, y) = both (eqb (loanBand l) band) (eqb (loanLtv values l) ltv) e in
+      ap₂ placeOf (eqb-true (loanBand l) band x) (eqb-true (loanLtv values l) ltv y)
 
-  other-cell : (eqb (loanBand l) band && eqb (loanLtv l) ltv) ≡ false → (i j : ℕ) → i < 4 → j < 4 →
-      placeOf band ltv + i ≡ placeOf (loanBand l) (loanLtv l) + j → ⊥
+  other-cell : (eqb (loanBand l) band && eqb (loanLtv values l) ltv) ≡ false → (i j : ℕ) → i < 4 → j < 4 →
+      placeOf band ltv + i ≡ placeOf (loanBand l) (loanLtv values l) + j → ⊥
   other-cell e i j h m f =
       let x = band-between (l .score) in
-      let y = ltv-between (l .value) (l .balance) in
-      let same : (loanBand l ≡ band) × (loanLtv l ≡ ltv) = (
+      let y = loan-ltv-between values l in
+      let same : (loanBand l ≡ band) × (loanLtv values l ≡ ltv) = (
         omega (arith, f, b .least, b .most, k .least, k .most, x .least, x .most, y .least, y .most),
         omega (arith, f, b .least, b .most, k .least, k .most, x .least, x .most, y .least, y .most),
       ) in
-      true≢false (sym (rw (eq-eqb (loanBand l) band (same .0), eq-eqb (loanLtv l) ltv (same .1)) refl) ∙ e)
+      true≢false (sym (rw (eq-eqb (loanBand l) band (same .0), eq-eqb (loanLtv values l) ltv (same .1)) refl) ∙ e)
 
 -- What a line adds to a cell, by its bytes
 
@@ -147,76 +134,79 @@ no-member : (test : Bool) (n : ℕ) → (test ≡ true → ⊥) → pick test n 
 no-member true n h = absurd (h refl)
 no-member false n h = refl
 
-cell-adds : (s : List ℕ) (band ltv : ℕ) (f : Loan → ℕ) → CellAdds s band ltv f
-cell-adds s band ltv f = record {
+cell-adds : (values : Index) (s : List ℕ) (band ltv : ℕ) (f : Loan → ℕ) → CellAdds values s band ltv f
+cell-adds values s band ltv f = record {
   member = λ l h b k.
-      rw (line-accepted s (loan l) tt .1 (h .shows .writable, h .in-range, h .shows .bytes), eq-eqb (loanBand l) band b, eq-eqb (loanLtv l) ltv k) refl;
+      rw (line-accepted s (loan l) tt .1 (h .shows .writable, h .in-range, h .shows .bytes), eq-eqb (loanBand l) band b, eq-eqb (loanLtv values l) ltv k) refl;
   other = λ h. go (lineOf s) refl h;
 }
   where
-    go : (l : Line) → lineOf s ≡ l → ((x : Loan) → ShowsInRange s (loan x) → loanBand x ≡ band → loanLtv x ≡ ltv → ⊥) → inCell band ltv f (lineContent l) ≡ 0
+    go : (l : Line) → lineOf s ≡ l → ((x : Loan) → ShowsInRange s (loan x) → loanBand x ≡ band → loanLtv values x ≡ ltv → ⊥) →
+        inCell values band ltv f (lineContent l) ≡ 0
     go (LoanLine l) e h =
         let (w, r, y) = line-accepted s (loan l) tt .0 e in
-        no-member (eqb (loanBand l) band && eqb (loanLtv l) ltv) (f l)
+        no-member (eqb (loanBand l) band && eqb (loanLtv values l) ltv) (f l)
         (λ t.
-        let (b, k) = both (eqb (loanBand l) band) (eqb (loanLtv l) ltv) t in
-        h l (record { shows = record { writable = w; bytes = y }; in-range = r }) (eqb-true (loanBand l) band b) (eqb-true (loanLtv l) ltv k))
+        let (b, k) = both (eqb (loanBand l) band) (eqb (loanLtv values l) ltv) t in
+        h l (record { shows = record { writable = w; bytes = y }; in-range = r }) (eqb-true (loanBand l) band b) (eqb-true (loanLtv values l) ltv k))
     go (PolicyLine p) e h = refl
     go (DerivativeLine d) e h = refl
     go (AssetLine a) e h = refl
     go (AmountLine a) e h = refl
+    go (IndexLine i) e h = refl
     go (Refusal n) e h = refl
 
 -- The place j of a cell sums f over the loans of its band and column, where f is what a loan adds there.
-module _ (t : Terms) (band ltv j : ℕ) (b : Between 1 12 band) (k : Between 1 5 ltv) (few : j < 4) (f : Loan → ℕ)
-    (adds : (l : Loan) (i : ℕ) → i ≡ placeOf (loanBand l) (loanLtv l) + j →
-    placed i (placeOf (loanBand l) (loanLtv l)) (loanCell t l) ≡ f l) where
+module _ (g : Basis) (band ltv j : ℕ) (b : Between 1 12 band) (k : Between 1 5 ltv) (few : j < 4) (f : Loan → ℕ)
+    (adds : (l : Loan) (i : ℕ) → i ≡ placeOf (loanBand l) (loanLtv (g .index) l) + j →
+    placed i (placeOf (loanBand l) (loanLtv (g .index) l)) (loanCell g l) ≡ f l) where
   placed-loan : (l : Loan) (i : ℕ) → i ≡ placeOf band ltv + j →
-      placed i (placeOf (loanBand l) (loanLtv l)) (loanCell t l) ≡ inCell band ltv f (loan l)
-  placed-loan l i e = go (eqb (loanBand l) band && eqb (loanLtv l) ltv) refl
+      placed i (placeOf (loanBand l) (loanLtv (g .index) l)) (loanCell g l) ≡ inCell (g .index) band ltv f (loan l)
+  placed-loan l i e = go (eqb (loanBand l) band && eqb (loanLtv (g .index) l) ltv) refl
     where
-      go : (test : Bool) → (eqb (loanBand l) band && eqb (loanLtv l) ltv) ≡ test →
-          placed i (placeOf (loanBand l) (loanLtv l)) (loanCell t l) ≡ pick test (f l) 0
-      go true s = adds l i (e ∙ ap (λ (x : ℕ). x + j) (sym (same-cell band ltv l b k s)))
-      go false s = adds-none i (placeOf (loanBand l) (loanLtv l)) (loanCell t l)
-          (λ m h g. other-cell band ltv l b k s j m few h (sym e ∙ g))
+      go : (test : Bool) → (eqb (loanBand l) band && eqb (loanLtv (g .index) l) ltv) ≡ test →
+          placed i (placeOf (loanBand l) (loanLtv (g .index) l)) (loanCell g l) ≡ pick test (f l) 0
+      go true s = adds l i (e ∙ ap (λ (x : ℕ). x + j) (sym (same-cell (g .index) band ltv l b k s)))
+      go false s = adds-none i (placeOf (loanBand l) (loanLtv (g .index) l)) (loanCell g l)
+          (λ m h z. other-cell (g .index) band ltv l b k s j m few h (sym e ∙ z))
 
-  placed-line : (c : Content) (i : ℕ) → i ≡ placeOf band ltv + j → placedBy t i c ≡ inCell band ltv f c
+  placed-line : (c : Content) (i : ℕ) → i ≡ placeOf band ltv + j → placedBy g i c ≡ inCell (g .index) band ltv f c
   unfolding placedBy
   placed-line c i e = go (held c)
     where
-      go : {c : Content} → Held c → placedBy t i c ≡ inCell band ltv f c
+      go : {c : Content} → Held c → placedBy g i c ≡ inCell (g .index) band ltv f c
       go (a-loan l) = placed-loan l i e
       go (no-loan n) =
-          n ℕ (λ l. placed i (placeOf (loanBand l) (loanLtv l)) (loanCell t l)) 0
-          ∙ sym (n ℕ (λ l. pick (eqb (loanBand l) band && eqb (loanLtv l) ltv) (f l) 0) 0)
+          n ℕ (λ l. placed i (placeOf (loanBand l) (loanLtv (g .index) l)) (loanCell g l)) 0
+          ∙ sym (n ℕ (λ l. pick (eqb (loanBand l) band && eqb (loanLtv (g .index) l) ltv) (f l) 0) 0)
 
-  cell-part : (kept : List (List ℕ)) (i : ℕ) → i ≡ placeOf band ltv + j → getD (cellsOf t kept) i 0 ≡ sumBy (inCell band ltv f) kept
-  cell-part kept i e = cells-at t kept i (omega (arith, e, place-room band ltv b k)) ∙ sum-alike (λ c. placed-line c i e) kept
+  cell-part : (kept : List (List ℕ)) (i : ℕ) → i ≡ placeOf band ltv + j → getD (cellsOf g kept) i 0 ≡ sumBy (inCell (g .index) band ltv f) kept
+  cell-part kept i e = cells-at g kept i (omega (arith, e, place-room band ltv b k)) ∙ sum-alike (placedBy g i) (inCell (g .index) band ltv f)
+      (λ s. placed-line (lineContent (lineOf s)) i e) kept
 
 -- A cell of the table is that of the lines taken.
-pub cell-is : (t : Terms) (kept : List (List ℕ)) (band ltv : ℕ) → 1 ≤ band → band ≤ 12 → 1 ≤ ltv → ltv ≤ 5 →
-    cellAt (cellsOf t kept) band ltv ≡ cellFor t kept band ltv
-unfolding cellFor
-cell-is t kept band ltv b c k m =
+pub cell-is : (g : Basis) (kept : List (List ℕ)) (band ltv : ℕ) → 1 ≤ band → band ≤ 12 → 1 ≤ ltv → ltv ≤ 5 →
+    cellAt (cellsOf g kept) band ltv ≡ cellBy g kept band ltv
+unfolding cellBy
+cell-is g kept band ltv b c k m =
     let x : Between 1 12 band = record { least = b; most = c } in
     let y : Between 1 5 ltv = record { least = k; most = m } in
     λ i. record {
-      count = cell-part t band ltv 0 x y (omega arith) (λ l. loanCell t l .count) (λ l n e. adds-count n _ (loanCell t l) (omega (arith, e)))
+      count = cell-part g band ltv 0 x y (omega arith) (λ l. loanCell g l .count) (λ l n e. adds-count n _ (loanCell g l) (omega (arith, e)))
           kept (placeOf band ltv) (omega arith) i;
-      balance = cell-part t band ltv 1 x y (omega arith) (λ l. loanCell t l .balance) (λ l n e. adds-balance n _ (loanCell t l) e)
+      balance = cell-part g band ltv 1 x y (omega arith) (λ l. loanCell g l .balance) (λ l n e. adds-balance n _ (loanCell g l) e)
           kept (placeOf band ltv + 1) refl i;
       charge = record {
-        plus = cell-part t band ltv 2 x y (omega arith) (λ l. loanCell t l .charge .plus) (λ l n e. adds-plus n _ (loanCell t l) e)
+        plus = cell-part g band ltv 2 x y (omega arith) (λ l. loanCell g l .charge .plus) (λ l n e. adds-plus n _ (loanCell g l) e)
             kept (placeOf band ltv + 2) refl i;
-        minus = cell-part t band ltv 3 x y (omega arith) (λ l. loanCell t l .charge .minus) (λ l n e. adds-minus n _ (loanCell t l) e)
+        minus = cell-part g band ltv 3 x y (omega arith) (λ l. loanCell g l .charge .minus) (λ l n e. adds-minus n _ (loanCell g l) e)
             kept (placeOf band ltv + 3) refl i;
       };
     }
 
-pub cells-text : (t : Terms) (kept : List (List ℕ)) → cellsTextOf (cellsOf t kept) ≡ cellsFor t kept
+pub cells-text : (t : Terms) (kept : List (List ℕ)) → cellsTextOf (cellsOf (basisOf t kept) kept) ≡ cellsFor t kept
 unfolding cellsFor
-cells-text t kept = cells-alike (cell-is t kept)
+cells-text t kept = cells-alike (cell-is (basisOf t kept) kept)
 
 -- Over all cells
 
@@ -255,19 +245,19 @@ in-band : (test : Bool) (k x : ℕ) → Between 1 5 k → sumTo 5 (λ ltv. pick 
 in-band true k x h = sum-one 5 k x (h .least) (h .most)
 in-band false k x h = sum-to-zero 5
 
-over-loan : (l : Loan) (x : ℕ) → overCells (λ band ltv. pick (eqb (loanBand l) band && eqb (loanLtv l) ltv) x 0) ≡ x
-over-loan l x =
+over-loan : (values : Index) (l : Loan) (x : ℕ) → overCells (λ band ltv. pick (eqb (loanBand l) band && eqb (loanLtv values l) ltv) x 0) ≡ x
+over-loan values l x =
     let b = band-between (l .score) in
-    sum-to-alike 12 (λ band. in-band (eqb (loanBand l) band) (loanLtv l) x (ltv-between (l .value) (l .balance)))
+    sum-to-alike 12 (λ band. in-band (eqb (loanBand l) band) (loanLtv values l) x (loan-ltv-between values l))
     ∙ sum-one 12 (loanBand l) x (b .least) (b .most)
 
-over-line : (f : Loan → ℕ) (c : Content) → overCells (λ band ltv. inCell band ltv f c) ≡ ofLoan f 0 c
-over-line f c = go (held c)
+over-line : (values : Index) (f : Loan → ℕ) (c : Content) → overCells (λ band ltv. inCell values band ltv f c) ≡ ofLoan f 0 c
+over-line values f c = go (held c)
   where
-    go : {c : Content} → Held c → overCells (λ band ltv. inCell band ltv f c) ≡ ofLoan f 0 c
-    go (a-loan l) = over-loan l (f l)
+    go : {c : Content} → Held c → overCells (λ band ltv. inCell values band ltv f c) ≡ ofLoan f 0 c
+    go (a-loan l) = over-loan values l (f l)
     go (no-loan n) =
-        sum-to-alike 12 (λ band. sum-to-alike 5 (λ ltv. n ℕ (λ l. pick (eqb (loanBand l) band && eqb (loanLtv l) ltv) (f l) 0) 0) ∙ sum-to-zero 5)
+        sum-to-alike 12 (λ band. sum-to-alike 5 (λ ltv. n ℕ (λ l. pick (eqb (loanBand l) band && eqb (loanLtv values l) ltv) (f l) 0) 0) ∙ sum-to-zero 5)
         ∙ sum-to-zero 12 ∙ sym (n ℕ f 0)
 
 over-sum : (f g : ℕ → ℕ → ℕ) → overCells (λ band ltv. f band ltv + g band ltv) ≡ overCells f + overCells g
@@ -276,62 +266,63 @@ over-sum f g =
     ∙ sum-to-plus 12 (λ band. sumTo 5 (f band)) (λ band. sumTo 5 (g band))
 
 -- Something of the loans summed in each cell, and over all cells, is its sum over all loans.
-all-cells : (f : Loan → ℕ) (kept : List (List ℕ)) → overCells (λ band ltv. sumBy (inCell band ltv f) kept) ≡ sumBy (ofLoan f 0) kept
+all-cells : (values : Index) (f : Loan → ℕ) (kept : List (List ℕ)) → overCells (λ band ltv. sumBy (inCell values band ltv f) kept) ≡ sumBy (ofLoan f 0) kept
 unfolding sumBy
-all-cells f [] = sum-to-alike 12 (λ band. sum-to-zero 5) ∙ sum-to-zero 12
-all-cells f (s ∷ kept) =
-    over-sum (λ band ltv. inCell band ltv f (lineContent (lineOf s))) (λ band ltv. sumBy (inCell band ltv f) kept)
-    ∙ ap₂ _+_ (over-line f (lineContent (lineOf s))) (all-cells f kept)
+all-cells values f [] = sum-to-alike 12 (λ band. sum-to-zero 5) ∙ sum-to-zero 12
+all-cells values f (s ∷ kept) =
+    over-sum (λ band ltv. inCell values band ltv f (lineContent (lineOf s))) (λ band ltv. sumBy (inCell values band ltv f) kept)
+    ∙ ap₂ _+_ (over-line values f (lineContent (lineOf s))) (all-cells values f kept)
 
 -- what a line adds to the book's loans and total
-record AddsLoan (t : Terms) (c : Content) : Type 0 where
-  loans : ofLoan (λ l. 1) 0 c ≡ share t c .counts .loans
-  plus : ofLoan (λ l. loanNumbers t l .total .plus) 0 c ≡ share t c .total .plus
-  minus : ofLoan (λ l. loanNumbers t l .total .minus) 0 c ≡ share t c .total .minus
+record AddsLoan (g : Basis) (c : Content) : Type 0 where
+  loans : ofLoan (λ l. 1) 0 c ≡ share g c .counts .loans
+  plus : ofLoan (λ l. loanNumbers g l .total .plus) 0 c ≡ share g c .total .plus
+  minus : ofLoan (λ l. loanNumbers g l .total .minus) 0 c ≡ share g c .total .minus
 
-adds-loan : (t : Terms) (c : Content) → AddsLoan t c
-unfolding share loanShare kindCounts
-adds-loan t c = go (held c) (shape t c)
+adds-loan : (g : Basis) (c : Content) → AddsLoan g c
+unfolding share shareWith kindCounts
+adds-loan g c = go (held c) (shape g c)
   where
-    go : {c : Content} → Held c → Shape t c → AddsLoan t c
+    go : {c : Content} → Held c → Shape g c → AddsLoan g c
     go (a-loan l) s = record { loans = refl; plus = refl; minus = refl }
     go (no-loan n) (of-loan l) = absurd (omega (arith, n ℕ (λ x. 1) 0))
-    go (no-loan n) (of-other k a) = record {
+    go (no-loan n) (of-other k z a) = record {
       loans = n ℕ (λ l. 1) 0 ∙ rw (a .sums) refl;
-      plus = n ℕ (λ l. loanNumbers t l .total .plus) 0 ∙ rw (a .sums) refl;
-      minus = n ℕ (λ l. loanNumbers t l .total .minus) 0 ∙ rw (a .sums) refl;
+      plus = n ℕ (λ l. loanNumbers g l .total .plus) 0 ∙ rw (a .sums) refl;
+      minus = n ℕ (λ l. loanNumbers g l .total .minus) 0 ∙ rw (a .sums) refl;
     }
     go (no-loan n) (of-none k a e) = record {
       loans = n ℕ (λ l. 1) 0 ∙ rw a refl;
-      plus = n ℕ (λ l. loanNumbers t l .total .plus) 0 ∙ rw a refl;
-      minus = n ℕ (λ l. loanNumbers t l .total .minus) 0 ∙ rw a refl;
+      plus = n ℕ (λ l. loanNumbers g l .total .plus) 0 ∙ rw a refl;
+      minus = n ℕ (λ l. loanNumbers g l .total .minus) 0 ∙ rw a refl;
     }
 
 -- the book's sums are those of its loans
-record LoanSums (t : Terms) (kept : List (List ℕ)) : Type 0 where
-  loans : sumBy (ofLoan (λ l. 1) 0) kept ≡ sumsOf t kept .counts .loans
-  plus : sumBy (ofLoan (λ l. loanNumbers t l .total .plus) 0) kept ≡ sumsOf t kept .total .plus
-  minus : sumBy (ofLoan (λ l. loanNumbers t l .total .minus) 0) kept ≡ sumsOf t kept .total .minus
+record LoanSums (g : Basis) (kept : List (List ℕ)) : Type 0 where
+  loans : sumBy (ofLoan (λ l. 1) 0) kept ≡ sumsBy g kept .counts .loans
+  plus : sumBy (ofLoan (λ l. loanNumbers g l .total .plus) 0) kept ≡ sumsBy g kept .total .plus
+  minus : sumBy (ofLoan (λ l. loanNumbers g l .total .minus) 0) kept ≡ sumsBy g kept .total .minus
 
-loan-sums : (t : Terms) (kept : List (List ℕ)) → LoanSums t kept
-unfolding sumBy sumsOf sumOf
-loan-sums t [] = record { loans = refl; plus = refl; minus = refl }
-loan-sums t (s ∷ kept) =
-    let a = adds-loan t (lineContent (lineOf s)) in
-    let r = loan-sums t kept in
+loan-sums : (g : Basis) (kept : List (List ℕ)) → LoanSums g kept
+unfolding sumBy sumsBy sumOf
+loan-sums g [] = record { loans = refl; plus = refl; minus = refl }
+loan-sums g (s ∷ kept) =
+    let a = adds-loan g (lineContent (lineOf s)) in
+    let r = loan-sums g kept in
     record { loans = ap₂ _+_ (a .loans) (r .loans); plus = ap₂ _+_ (a .plus) (r .plus); minus = ap₂ _+_ (a .minus) (r .minus) }
 
 pub cell-sums : (t : Terms) (kept : List (List ℕ)) → CellSums t kept
-unfolding cellFor figuresFor
+unfolding cellBy figuresFor
 cell-sums t kept =
-    let s = loan-sums t kept in
+    let g : Basis = basisOf t kept in
+    let s = loan-sums g kept in
     record {
-      counts = all-cells (λ l. loanCell t l .count) kept ∙ s .loans;
+      counts = all-cells (g .index) (λ l. loanCell g l .count) kept ∙ s .loans;
       charges =
           omega (
             arith,
-            all-cells (λ l. loanCell t l .charge .plus) kept,
-            all-cells (λ l. loanCell t l .charge .minus) kept,
+            all-cells (g .index) (λ l. loanCell g l .charge .plus) kept,
+            all-cells (g .index) (λ l. loanCell g l .charge .minus) kept,
             s .plus,
             s .minus,
           );
@@ -340,20 +331,25 @@ cell-sums t kept =
 -- Closing
 
 pub cells-written : (t : Terms) (a : Accepted) → WritesCells t a (stateOf t a)
-cells-written t a = rw (← cells-text t (a .kept)) (writes-of cellsSize t a (cellsTextOf (cellsOf t (a .kept))))
+cells-written t a = rw (← cells-text t (a .kept)) (writes-of cellsSize t a (cellsTextOf (cellsOf (basisOf t (a .kept)) (a .kept))))
 
 -- Order
 
-pub cells-permuted : (t : Terms) {kept others : List (List ℕ)} → List·Permᴰ kept others → cellsFor t kept ≡ cellsFor t others
-unfolding cellsFor cellFor
-cells-permuted t {kept} {others} p = cells-alike (λ band ltv a b c d i. record {
-  count = sum-permuted (inCell band ltv (λ l. loanCell t l .count)) p i;
-  balance = sum-permuted (inCell band ltv (λ l. loanCell t l .balance)) p i;
+cell-permuted : (g : Basis) {kept others : List (List ℕ)} → List·Permᴰ kept others → (band ltv : ℕ) → cellBy g kept band ltv ≡ cellBy g others band ltv
+unfolding cellBy
+cell-permuted g p band ltv = λ i. record {
+  count = sum-permuted (inCell (g .index) band ltv (λ l. loanCell g l .count)) p i;
+  balance = sum-permuted (inCell (g .index) band ltv (λ l. loanCell g l .balance)) p i;
   charge = record {
-    plus = sum-permuted (inCell band ltv (λ l. loanCell t l .charge .plus)) p i;
-    minus = sum-permuted (inCell band ltv (λ l. loanCell t l .charge .minus)) p i;
+    plus = sum-permuted (inCell (g .index) band ltv (λ l. loanCell g l .charge .plus)) p i;
+    minus = sum-permuted (inCell (g .index) band ltv (λ l. loanCell g l .charge .minus)) p i;
   };
-})
+}
+
+pub cells-permuted : (t : Terms) {kept others : List (List ℕ)} → List·Permᴰ kept others → cellsFor t kept ≡ cellsFor t others
+unfolding cellsFor
+cells-permuted t {kept} {others} p =
+    cells-alike (λ band ltv a b c d. ap (λ (g : Basis). cellBy g kept band ltv) (basis-permuted t p) ∙ cell-permuted (basisOf t others) p band ltv)
 
 pub same-tables : (t : Terms) {a b : Accepted} → List·Permᴰ (a .kept) (b .kept) → SameTables (stateOf t a) (stateOf t b)
 same-tables t {a} {b} p =
@@ -364,7 +360,9 @@ loan-table = record {
   bands = bands;
   columns = columns;
   adds = cell-adds;
-  cells = λ sheet header lines. rw (after-is sheet header lines) (cell-is (termsOf (opened sheet header)) (linesTaken (allFed (opened sheet header) lines)));
+  cells = λ sheet header lines.
+      rw (after-is sheet header lines)
+      (cell-is (basisOf (termsOf (opened sheet header)) (linesTaken (allFed (opened sheet header) lines))) (linesTaken (allFed (opened sheet header) lines)));
   closes = λ sheet header lines.
       rw (after-is sheet header lines) (cells-written (termsOf (opened sheet header)) (acceptedOf (allFed (opened sheet header) lines)));
   sums = λ sheet header lines. cell-sums (termsOf (opened sheet header)) (linesTaken (allFed (opened sheet header) lines));

@@ -1,6 +1,7 @@
 -- The sums of the loans' numbers near the exact sums, from some order on with exp(-y) taken as 1 / E(m).
 -- Assumes nothing.
 use mathlib.Core.Path.{_≡_, refl}
+use mathlib.Core.Bool.{false}
 use mathlib.Core.List.{List, [], _∷_}
 use Prim.Native.Nat.{ℕ, _+_, _*_, _^_, _≤_}
 use native.Mathlib.Omega.{arith}
@@ -25,11 +26,14 @@ use Rattle.figures.specs.declared.Sums.{Sums}
 use Rattle.figures.specs.Sums.{sumOf, plus, signedSum}
 use Rattle.book_model.specs.Accepted.{countsIn}
 use Rattle.book_model.specs.Exact.{exactShare, exactOf, sumOver}
-use Rattle.book_model.specs.History.{sumsOf}
+use Rattle.book_model.specs.History.{sumsBy}
+use Rattle.book_model.specs.declared.Adjustment.{Adjustment}
+use Rattle.book_model.specs.HouseIndex.{adjustmentOf, lacking}
 use Rattle.book_model.specs.LineKinds.{contentKind, kindCounts}
-use Rattle.book_model.specs.Ranges.{LoanRanges, Ranged}
-use Rattle.book_model.specs.Share.{share, loanShare, loanNumbers}
-use Rattle.book_model.specs.Terms.{Terms, factorFor, loanInputs}
+use Rattle.book_model.specs.Ranges.{LoanRanges, AdjustmentRanges, Ranged}
+use Rattle.book_model.specs.Share.{share, shareWith, loanShare, numbersWith, loanNumbers}
+use Rattle.book_model.specs.Terms.{Terms, Basis, factorFor, inputsWith, loanInputs}
+use Rattle.book_model.proofs.Adjustments.{Has, Settled, InHundredths, adjustment-ranges, ratio-ranges}
 use Rattle.book_model.proofs.Ranged.{ranged}
 use Rattle.book_model.proofs.Shapes.{Shape, of-loan, of-other, of-none, shape}
 
@@ -91,42 +95,49 @@ sum-close {x = x} {y = y} {m = m} {n = n} h k =
           (sum-signed (x .supplement) (y .supplement)) (Fractions.same-refl _) (within-sum (h .near-supplement) (k .near-supplement)));
     }
 
--- Terms under which every loan can be charged
-pub record ChargeableTerms (t : Terms) : Type 0 where
-  pub factors : (s : Score) → factorFor t s ≤ 3 * 10 ^ 17
+-- Terms and index values by which every loan that has its values can be charged
+pub record ChargeableBasis (g : Basis) : Type 0 where
+  pub factors : (s : Score) → factorFor (g .terms) s ≤ 3 * 10 ^ 17
+  pub values : InHundredths (g .index)
 
-pub rates-chargeable : (t : Terms) → RatesInRange (t .rates) → ChargeableTerms t
+pub rates-chargeable : (t : Terms) → RatesInRange (t .rates) → (s : Score) → factorFor t s ≤ 3 * 10 ^ 17
 unfolding factorFor
-rates-chargeable t r = record { factors = λ s. promise .factors (t .rates) r (onAgedTable (t .header)) (t .header .loans) (t .header .unscored) s .most }
+rates-chargeable t r s = promise .factors (t .rates) r (onAgedTable (t .header)) (t .header .loans) (t .header .unscored) s .most
 
-pub chargeable : {t : Terms} → ChargeableTerms t → (l : Loan) → LoanRanges l → Chargeable (loanInputs t l)
-chargeable g l r =
+pub inputs-chargeable : (t : Terms) (a : Adjustment) (l : Loan) → factorFor t (l .score) ≤ 3 * 10 ^ 17 → LoanRanges l → AdjustmentRanges a →
+    Chargeable (inputsWith t a l)
+inputs-chargeable t a l m r k =
+    let z = ratio-ranges a l r k in
     record {
-      divisor-least = r .balance-least;
-      divisor-most = omega (arith, r .balance-most);
+      divisor-least = z .over-least;
+      divisor-most = omega (arith, z .over-most);
       balance-most = r .balance-most;
       months-least = r .months-least;
       months-most = r .months-most;
-      factor-most = g .factors (l .score);
+      factor-most = m;
     }
 
-line-close : {t : Terms} → ChargeableTerms t → (n : ℕ) (c : Content) → Ranged c →
-    Eventually (λ x. Close (exactShare t c .total .value x) (exactShare t c .supplement .value x) (share t c) (kindCounts (contentKind n c) .loans))
-unfolding exactShare share loanShare loanNumbers contentKind kindCounts
-line-close {t} g n c r = go (shape t c) r
-  where
-    go : {c : Content} → Shape t c → Ranged c →
-        Eventually (λ x. Close (exactShare t c .total .value x) (exactShare t c .supplement .value x) (share t c) (kindCounts (contentKind n c) .loans))
-    go (of-loan l) r =
-        mapped (λ m k. one-close (loanNumbers t l) (loanShare t l) refl refl k)
-        (promise .near (loanInputs t l) (chargeable g l r))
-    go (of-other k a) r = rw (k n, a .sums, a .exactly) (always (λ m. none-close _ refl refl))
-    go (of-none k a b) r = rw (k n, a, b) (always (λ m. none-close _ refl refl))
+pub chargeable : {g : Basis} → ChargeableBasis g → (l : Loan) → LoanRanges l → lacking (adjustmentOf (g .index) l) ≡ false → Chargeable (loanInputs g l)
+chargeable {g} u l r e = inputs-chargeable (g .terms) (adjustmentOf (g .index) l) l (u .factors (l .score)) r (adjustment-ranges (u .values) l e)
 
-pub list-close : {t : Terms} → ChargeableTerms t → (kept : List (List ℕ)) →
-    Eventually (λ x. Close (sumOver (λ s. exactOf t s .total .value x) kept) (sumOver (λ s. exactOf t s .supplement .value x) kept) (sumsOf t kept)
+line-close : {g : Basis} → ChargeableBasis g → (n : ℕ) (c : Content) → Ranged c → Has (g .index) c →
+    Eventually (λ x. Close (exactShare g c .total .value x) (exactShare g c .supplement .value x) (share g c) (kindCounts (contentKind n c) .loans))
+unfolding exactShare share shareWith numbersWith contentKind kindCounts
+line-close {g} u n c r h = go (shape g c) r h
+  where
+    go : {c : Content} → Shape g c → Ranged c → Has (g .index) c →
+        Eventually (λ x. Close (exactShare g c .total .value x) (exactShare g c .supplement .value x) (share g c) (kindCounts (contentKind n c) .loans))
+    go (of-loan l) r h =
+        mapped (λ m k. one-close (loanNumbers g l) (loanShare g l) refl refl k)
+        (promise .near (loanInputs g l) (chargeable u l r h))
+    go (of-other k z a) r h = rw (k n, a .sums, a .exactly) (always (λ m. none-close _ refl refl))
+    go (of-none k a b) r h = rw (k n, a, b) (always (λ m. none-close _ refl refl))
+
+pub list-close : {g : Basis} → ChargeableBasis g → (kept : List (List ℕ)) → Settled (g .index) kept →
+    Eventually (λ x. Close (sumOver (λ s. exactOf g s .total .value x) kept) (sumOver (λ s. exactOf g s .supplement .value x) kept) (sumsBy g kept)
     (countsIn kept .loans))
-unfolding sumOver sumsOf sumOf countsIn
-list-close g [] = always (λ m. none-close _ refl refl)
-list-close {t} g (s ∷ kept) =
-    mapped (λ m h. sum-close (h .0) (h .1)) (both (line-close g (lineRefusal (lineOf s)) (lineContent (lineOf s)) (ranged s)) (list-close g kept))
+unfolding sumOver sumsBy sumOf countsIn Settled
+list-close u [] h = always (λ m. none-close _ refl refl)
+list-close {g} u (s ∷ kept) h =
+    mapped (λ m k. sum-close (k .0) (k .1))
+    (both (line-close u (lineRefusal (lineOf s)) (lineContent (lineOf s)) (ranged s) (h .0)) (list-close u kept (h .1)))

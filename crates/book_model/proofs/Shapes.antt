@@ -14,17 +14,18 @@ use Rattle.line_forms.specs.declared.Item.{Item}
 use Rattle.line_forms.specs.declared.Item.the-variants.{Claims, Lossc, Stated, Equity, Aoci, B, C}
 use Rattle.line_forms.specs.declared.Content.{Content}
 use Rattle.line_forms.specs.declared.Content.the-variants.{Header as header, Loan as loan, Policy as policy, Derivative as derivative, Asset as asset}
-use Rattle.line_forms.specs.declared.Content.the-variants.{Amount as amount, NoForm}
+use Rattle.line_forms.specs.declared.Content.the-variants.{Amount as amount, Index as index, NoForm}
 use Rattle.other_charges.specs.Charges.{claimsPercent, lossComponentsPercent, statedPercent, provisionTenths, addOnThousandths}
 use Rattle.other_charges.specs.Parts.{assetParts, derivativeParts, provisionParts}
 use Rattle.other_charges.proofs.ChargeLaws.{InParts, asset-is, share-is, derivative-is, provision-is, multi-provision-is, tenths-bounded, add-on-bounded}
 use Rattle.figures.specs.declared.Sums.{Sums}
 use Rattle.figures.specs.Sums.{noSums, zeroSigned, moneyOf, Bounded}
 use Rattle.book_model.specs.Exact.{ExactShare, exactOther, nothing, exactPolicy, exactAmount, exactShare}
-use Rattle.book_model.specs.LineKinds.{another, refused, contentKind, kindCounts}
+use Rattle.book_model.specs.HouseIndex.{indexLine}
+use Rattle.book_model.specs.LineKinds.{another, contentKind, kindCounts}
 use Rattle.book_model.specs.Ranges.{Ranged, DerivativeRanges, AssetRanges}
 use Rattle.book_model.specs.Share.{otherShare, multiFactor, policyShare, derivativeShare, assetShare, amountShare, share}
-use Rattle.book_model.specs.Terms.{Terms}
+use Rattle.book_model.specs.Terms.{Basis}
 
 -- sums beside exact ones: rest and moved in ten-millionths are the exact charges; what goes to capital is bounded where the numbers are
 pub record Adds (s : Sums) (x : ExactShare) (InRange : Type 0) : Type 0 where
@@ -177,21 +178,24 @@ adds-within f a = record {
   bounds = λ r. a .bounds (f r);
 }
 
--- The data of a line: a loan's, another form's, or none.
-pub data Shape (t : Terms) : Content → Type 0 where
-  of-loan : (l : Loan) → Shape t (loan l)
-  of-other : {c : Content} → ((n : ℕ) → contentKind n c ≡ another) → Adds (share t c) (exactShare t c) (Ranged c) → Shape t c
-  of-none : {c : Content} → ((n : ℕ) → contentKind n c ≡ refused n) → share t c ≡ noSums → exactShare t c ≡ nothing → Shape t c
+-- The data of a line: a loan's, another form's that adds to the sums, or such as adds nothing.
+pub data Shape (g : Basis) : Content → Type 0 where
+  of-loan : (l : Loan) → Shape g (loan l)
+  of-other : {c : Content} → ((n : ℕ) → contentKind n c ≡ another) → indexLine c ≡ 0 → Adds (share g c) (exactShare g c) (Ranged c) → Shape g c
+  of-none : {c : Content} → ((n : ℕ) → kindCounts (contentKind n c) ≡ record { loans = 0; unscored = 0; other = indexLine c }) → share g c ≡ noSums →
+      exactShare g c ≡ nothing → Shape g c
 
-pub shape : (t : Terms) (c : Content) → Shape t c
-unfolding contentKind share derivativeShare assetShare exactShare
-shape t (header h) = of-none (λ n. refl) refl refl
-shape t (loan l) = of-loan l
-shape t (policy p) = of-other {c = policy p} (λ n. refl) (adds-within (λ r. r .premium) (policy-adds (p .class) (p .premium) (p .term) (p .completed)))
-shape t (derivative d) =
-    of-other {c = derivative d} (λ n. refl) (adds-rest _ _
+pub shape : (g : Basis) (c : Content) → Shape g c
+unfolding contentKind kindCounts share derivativeShare assetShare exactShare
+shape g (header h) = of-none (λ n. refl) refl refl
+shape g (loan l) = of-loan l
+shape g (policy p) = of-other {c = policy p} (λ n. refl) refl (adds-within (λ r. r .premium) (policy-adds (p .class) (p .premium) (p .term) (p .completed)))
+shape g (derivative d) =
+    of-other {c = derivative d} (λ n. refl) refl (adds-rest _ _
     (derivative-is (d .kind) (d .cost .plus) (d .cost .minus) (d .notional) (d .months) (d .payments) (d .factor))
     (λ r. omega (arith, derivative-small d r)))
-shape t (asset a) = of-other {c = asset a} (λ n. refl) (adds-rest _ _ (asset-is (a .amount) (a .factor)) (λ r. omega (arith, asset-small a r)))
-shape t (amount a) = of-other {c = amount a} (λ n. refl) (adds-within (λ r. record { plus = r .plus; minus = r .minus }) (amount-adds (a .item) (a .amount)))
-shape t NoForm = of-none (λ n. refl) refl refl
+shape g (asset a) = of-other {c = asset a} (λ n. refl) refl (adds-rest _ _ (asset-is (a .amount) (a .factor)) (λ r. omega (arith, asset-small a r)))
+shape g (amount a) =
+    of-other {c = amount a} (λ n. refl) refl (adds-within (λ r. record { plus = r .plus; minus = r .minus }) (amount-adds (a .item) (a .amount)))
+shape g (index i) = of-none {c = index i} (λ n. refl) refl refl
+shape g NoForm = of-none (λ n. refl) refl refl

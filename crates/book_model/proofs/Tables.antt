@@ -16,21 +16,22 @@ use Rattle.line_forms.specs.Readings.{lineOf}
 use Rattle.cell_report.specs.declared.Cell.{Cell}
 use Rattle.cell_report.specs.CellReport.{placeOf}
 use Rattle.book_model.specs.Cells.{loanBand, loanLtv, ofLoan, noCells, addAt, loanCell, withCell, cellsWith}
-use Rattle.book_model.specs.LoanTable.{sumBy}
-use Rattle.book_model.specs.Terms.{Terms}
-use Rattle.book_model.proofs.Cells.{Between, band-between, ltv-between, Held, a-loan, no-loan, held}
+use Rattle.book_model.specs.LineKinds.{sumBy}
+use Rattle.book_model.specs.Terms.{Basis}
+use Rattle.book_model.proofs.LineSums.{sum-more}
+use Rattle.book_model.proofs.Cells.{Between, band-between, loan-ltv-between, Held, a-loan, no-loan, held}
 
 -- n values of a function, from k on
 unfoldable pub tabulate : (n k : ℕ) → (ℕ → ℕ) → List ℕ
 tabulate zero k f = []
 tabulate (suc n) k f = f k ∷ tabulate n (suc k) f
 
-tabulate-length : (n k : ℕ) (f : ℕ → ℕ) → length (tabulate n k f) ≡ n
+pub tabulate-length : (n k : ℕ) (f : ℕ → ℕ) → length (tabulate n k f) ≡ n
 unfolding tabulate
 tabulate-length zero k f = refl
 tabulate-length (suc n) k f = ap suc (tabulate-length n (suc k) f)
 
-tabulate-at : (n k : ℕ) (f : ℕ → ℕ) (i : ℕ) → i < n → getD (tabulate n k f) i 0 ≡ f (k + i)
+pub tabulate-at : (n k : ℕ) (f : ℕ → ℕ) (i : ℕ) → i < n → getD (tabulate n k f) i 0 ≡ f (k + i)
 unfolding tabulate
 tabulate-at zero k f i h = absurd (not-suc-le-zero h)
 tabulate-at (suc n) k f zero h = ap f (omega arith)
@@ -42,29 +43,29 @@ placed i place x =
     pick (eqb i place) (x .count) 0 + pick (eqb i (place + 1)) (x .balance) 0 + pick (eqb i (place + 2)) (x .charge .plus) 0
     + pick (eqb i (place + 3)) (x .charge .minus) 0
 
-unfoldable pub placedBy : Terms → ℕ → Content → ℕ
-placedBy t i c = ofLoan (λ l. placed i (placeOf (loanBand l) (loanLtv l)) (loanCell t l)) 0 c
+unfoldable pub placedBy : Basis → ℕ → Content → ℕ
+placedBy g i c = ofLoan (λ l. placed i (placeOf (loanBand l) (loanLtv (g .index) l)) (loanCell g l)) 0 c
 
 -- the table of the lines taken
-unfoldable pub cellsOf : Terms → List (List ℕ) → List ℕ
-cellsOf t kept = tabulate 240 0 (λ i. sumBy (placedBy t i) kept)
+unfoldable pub cellsOf : Basis → List (List ℕ) → List ℕ
+cellsOf g kept = tabulate 240 0 (λ i. sumBy (placedBy g i) kept)
 
-cells-length : (t : Terms) (kept : List (List ℕ)) → length (cellsOf t kept) ≡ 240
+cells-length : (g : Basis) (kept : List (List ℕ)) → length (cellsOf g kept) ≡ 240
 unfolding cellsOf
-cells-length t kept = tabulate-length 240 0 (λ i. sumBy (placedBy t i) kept)
+cells-length g kept = tabulate-length 240 0 (λ i. sumBy (placedBy g i) kept)
 
-pub cells-at : (t : Terms) (kept : List (List ℕ)) (i : ℕ) → i < 240 → getD (cellsOf t kept) i 0 ≡ sumBy (placedBy t i) kept
+pub cells-at : (g : Basis) (kept : List (List ℕ)) (i : ℕ) → i < 240 → getD (cellsOf g kept) i 0 ≡ sumBy (placedBy g i) kept
 unfolding cellsOf
-cells-at t kept i h = tabulate-at 240 0 (λ i. sumBy (placedBy t i) kept) i h ∙ ap (λ (j : ℕ). sumBy (placedBy t j) kept) (omega arith)
+cells-at g kept i h = tabulate-at 240 0 (λ i. sumBy (placedBy g i) kept) i h ∙ ap (λ (j : ℕ). sumBy (placedBy g j) kept) (omega arith)
 
-zero-cells : (n k : ℕ) → replicate n 0 ≡ tabulate n k (λ i. 0)
+pub zeros-tabulated : (n k : ℕ) → replicate n 0 ≡ tabulate n k (λ i. 0)
 unfolding tabulate
-zero-cells zero k = refl
-zero-cells (suc n) k = ap (λ (l : List ℕ). 0 ∷ l) (zero-cells n (suc k))
+zeros-tabulated zero k = refl
+zeros-tabulated (suc n) k = ap (λ (l : List ℕ). 0 ∷ l) (zeros-tabulated n (suc k))
 
-pub no-cells : (t : Terms) → noCells ≡ cellsOf t []
+pub no-cells : (g : Basis) → noCells ≡ cellsOf g []
 unfolding noCells cellsOf sumBy
-no-cells t = zero-cells 240 0
+no-cells g = zeros-tabulated 240 0
 
 -- One line more
 
@@ -97,44 +98,39 @@ with-cell-at l place x i h =
     )
     (omega arith)
 
-sum-more : (f : Content → ℕ) (kept : List (List ℕ)) (s : List ℕ) → sumBy f (kept ++ (s ∷ [])) ≡ sumBy f kept + f (lineContent (lineOf s))
-unfolding sumBy
-sum-more f [] s = omega arith
-sum-more f (r ∷ kept) s = omega (arith, sum-more f kept s)
-
 -- the four places of a cell are among the 240
 pub place-room : (band ltv : ℕ) → Between 1 12 band → Between 1 5 ltv → placeOf band ltv + 4 ≤ 240
 place-room band ltv b k = omega (arith, b .least, b .most, k .least, k .most)
 
-module _ (t : Terms) (kept : List (List ℕ)) (s : List ℕ) where
+module _ (g : Basis) (kept : List (List ℕ)) (s : List ℕ) where
   with-line : (c : Content) →
-      (length (cellsWith t c (cellsOf t kept)) ≡ 240)
-      × ((i : ℕ) → getD (cellsWith t c (cellsOf t kept)) i 0 ≡ getD (cellsOf t kept) i 0 + placedBy t i c)
+      (length (cellsWith g c (cellsOf g kept)) ≡ 240)
+      × ((i : ℕ) → getD (cellsWith g c (cellsOf g kept)) i 0 ≡ getD (cellsOf g kept) i 0 + placedBy g i c)
   unfolding cellsWith placedBy
   with-line c = go (held c)
     where
       go : {c : Content} → Held c →
-          (length (cellsWith t c (cellsOf t kept)) ≡ 240)
-          × ((i : ℕ) → getD (cellsWith t c (cellsOf t kept)) i 0 ≡ getD (cellsOf t kept) i 0 + placedBy t i c)
+          (length (cellsWith g c (cellsOf g kept)) ≡ 240)
+          × ((i : ℕ) → getD (cellsWith g c (cellsOf g kept)) i 0 ≡ getD (cellsOf g kept) i 0 + placedBy g i c)
       go (a-loan l) = (
-        with-cell-length (cellsOf t kept) (placeOf (loanBand l) (loanLtv l)) (loanCell t l) ∙ cells-length t kept,
-        λ i. with-cell-at (cellsOf t kept) (placeOf (loanBand l) (loanLtv l)) (loanCell t l) i
-            (omega (arith, cells-length t kept, place-room (loanBand l) (loanLtv l) (band-between (l .score)) (ltv-between (l .value) (l .balance)))),
+        with-cell-length (cellsOf g kept) (placeOf (loanBand l) (loanLtv (g .index) l)) (loanCell g l) ∙ cells-length g kept,
+        λ i. with-cell-at (cellsOf g kept) (placeOf (loanBand l) (loanLtv (g .index) l)) (loanCell g l) i
+            (omega (arith, cells-length g kept, place-room (loanBand l) (loanLtv (g .index) l) (band-between (l .score)) (loan-ltv-between (g .index) l))),
       )
       go (no-loan e) = (
-        rw (e (List ℕ) (λ l. withCell (cellsOf t kept) (placeOf (loanBand l) (loanLtv l)) (loanCell t l)) (cellsOf t kept))
-            (cells-length t kept),
+        rw (e (List ℕ) (λ l. withCell (cellsOf g kept) (placeOf (loanBand l) (loanLtv (g .index) l)) (loanCell g l)) (cellsOf g kept))
+            (cells-length g kept),
         λ i. rw (
-          e (List ℕ) (λ l. withCell (cellsOf t kept) (placeOf (loanBand l) (loanLtv l)) (loanCell t l)) (cellsOf t kept),
-          e ℕ (λ l. placed i (placeOf (loanBand l) (loanLtv l)) (loanCell t l)) 0,
+          e (List ℕ) (λ l. withCell (cellsOf g kept) (placeOf (loanBand l) (loanLtv (g .index) l)) (loanCell g l)) (cellsOf g kept),
+          e ℕ (λ l. placed i (placeOf (loanBand l) (loanLtv (g .index) l)) (loanCell g l)) 0,
         )
             (omega arith),
       )
 
-  pub cells-more : cellsWith t (lineContent (lineOf s)) (cellsOf t kept) ≡ cellsOf t (kept ++ (s ∷ []))
+  pub cells-more : cellsWith g (lineContent (lineOf s)) (cellsOf g kept) ≡ cellsOf g (kept ++ (s ∷ []))
   cells-more =
       let c = lineContent (lineOf s) in
-      ext-getD 0 (cellsWith t c (cellsOf t kept)) (cellsOf t (kept ++ (s ∷ []))) (with-line c .0 ∙ sym (cells-length t (kept ++ (s ∷ []))))
+      ext-getD 0 (cellsWith g c (cellsOf g kept)) (cellsOf g (kept ++ (s ∷ []))) (with-line c .0 ∙ sym (cells-length g (kept ++ (s ∷ []))))
       (λ i h.
       let k : i < 240 = omega (arith, with-line c .0) in
-      with-line c .1 i ∙ rw (cells-at t kept i k, cells-at t (kept ++ (s ∷ [])) i k) (sym (sum-more (placedBy t i) kept s)))
+      with-line c .1 i ∙ rw (cells-at g kept i k, cells-at g (kept ++ (s ∷ [])) i k) (sym (sum-more (placedBy g i) kept s)))

@@ -1,5 +1,5 @@
 -- Opening, feeding and closing a book as functions: the contracts of the calls equate their answers with these.
-use Prim.Native.Nat.{ℕ, _*_, _≤_}
+use Prim.Native.Nat.{ℕ, _+_, _*_, _≤_}
 use mathlib.Core.Bool.{Bool, _||_}
 use mathlib.Core.List.{List}
 use lib.Dec.{ltb, eqb}
@@ -27,22 +27,35 @@ use Rattle.book_model.specs.declared.Fed.{Fed}
 use Rattle.book_model.specs.declared.Opened.{Opened}
 use Rattle.book_model.specs.Accepted.{mostOther, refusalFor}
 use Rattle.book_model.specs.Cells.{noCells, cellsWith, CellsBounded}
-use Rattle.book_model.specs.LineKinds.{kindOf}
+use Rattle.book_model.specs.HouseIndex.{valuesAt, noIndex, indexWith, indexLine, IndexSound}
+use Rattle.book_model.specs.LineKinds.{kindOf, withIndexed}
 use Rattle.book_model.specs.Share.{share}
-use Rattle.book_model.specs.Terms.{Terms, under, termsFor}
+use Rattle.book_model.specs.Terms.{Terms, Basis, under, termsFor}
 
 -- A book as the calls have it: what goes by value, and the tables lent with it.
 pub record State : Type 0 where
   pub book : Book
   pub rates : List ℕ
   pub cells : List ℕ
+  pub index : List ℕ
 
-abbrev pub stateAt : Book → (rates cells : List ℕ) → State
-stateAt b rates cells = record { book = b; rates = rates; cells = cells }
+abbrev pub stateAt : Book → (rates cells index : List ℕ) → State
+stateAt b rates cells index = record { book = b; rates = rates; cells = cells; index = index }
 
 -- what it was opened under
 abbrev pub termsIn : State → Terms
 termsIn s = under (s .book .header) (s .rates)
+
+-- and what its loans are charged by
+abbrev pub basisAt : Header → (rates index : List ℕ) → Basis
+basisAt h rates index = record { terms = under h rates; index = valuesAt index }
+
+abbrev pub basisIn : State → Basis
+basisIn s = basisAt (s .book .header) (s .rates) (s .index)
+
+-- its counts, the index lines among the lines that are not loans
+abbrev pub countsOf : Book → Counts
+countsOf b = withIndexed (b .sums .counts) (b .indexed)
 
 -- An answer: the refusal, 0 for none, and the state after the call. By value go the refusal and the book.
 pub record Answer : Type 0 where
@@ -59,10 +72,10 @@ fedOf a = record { refusal = a .refusal; book = a .state .book }
 
 -- just opened, with no line taken
 abbrev pub emptyBook : Header → Book
-emptyBook h = record { header = h; sums = noSums }
+emptyBook h = record { header = h; sums = noSums; indexed = 0 }
 
 abbrev pub emptyState : Terms → State
-emptyState t = stateAt (emptyBook (t .header)) (t .rates) noCells
+emptyState t = stateAt (emptyBook (t .header)) (t .rates) noCells noIndex
 
 -- Its refusal, 0 for none: the header's first; then 10, where the sheet of factors lent breaks a rule (02, L3).
 unfoldable pub openingRefusal : (sheet : List ℕ) → HeaderLine → ℕ
@@ -80,24 +93,31 @@ opening sheet line = openingFor sheet (headerOf line)
 
 -- the refusal that a line meets in a book
 abbrev pub refusalIn : State → Line → ℕ
-refusalIn s l = refusalFor (termsIn s) (s .book .sums .counts) (kindOf l)
+refusalIn s l = refusalFor (basisIn s) (countsOf (s .book)) (kindOf l)
 
 -- The book after a line that met the refusal n, 0 for none, with what the line adds: a refused line changes nothing.
-abbrev pub bookWith : ℕ → Book → Sums → Book
-bookWith n b added = pick (eqb n 0) (record { header = b .header; sums = plus (b .sums) added }) b
+abbrev pub bookWith : ℕ → Book → (added : Sums) (indexed : ℕ) → Book
+bookWith n b added indexed = pick (eqb n 0) (record { header = b .header; sums = plus (b .sums) added; indexed = b .indexed + indexed }) b
 
 unfoldable pub bookAfter : State → Line → Book
-bookAfter s l = bookWith (refusalIn s l) (s .book) (share (termsIn s) (lineContent l))
+bookAfter s l = bookWith (refusalIn s l) (s .book) (share (basisIn s) (lineContent l)) (indexLine (lineContent l))
 
 -- and its table of cells after data of a line that met the refusal n
-abbrev pub tableWith : ℕ → Terms → Content → List ℕ → List ℕ
-tableWith n t c cells = pick (eqb n 0) (cellsWith t c cells) cells
+abbrev pub tableWith : ℕ → Basis → Content → List ℕ → List ℕ
+tableWith n g c cells = pick (eqb n 0) (cellsWith g c cells) cells
 
 unfoldable pub cellsAfter : State → Line → List ℕ
-cellsAfter s l = tableWith (refusalIn s l) (termsIn s) (lineContent l) (s .cells)
+cellsAfter s l = tableWith (refusalIn s l) (basisIn s) (lineContent l) (s .cells)
+
+-- and its table of index values
+unfoldable pub indexAfter : State → Line → List ℕ
+indexAfter s l = pick (eqb (refusalIn s l) 0) (indexWith (lineContent l) (s .index)) (s .index)
 
 unfoldable pub feedingLine : State → Line → Answer
-feedingLine s l = record { refusal = refusalIn s l; state = stateAt (bookAfter s l) (s .rates) (cellsAfter s l) }
+feedingLine s l = record {
+  refusal = refusalIn s l;
+  state = stateAt (bookAfter s l) (s .rates) (cellsAfter s l) (indexAfter s l);
+}
 
 abbrev pub feeding : State → List ℕ → Answer
 feeding s line = feedingLine s (lineOf line)
@@ -107,7 +127,7 @@ pub record SoundBook (b : Book) : Type 0 where
   pub bounded : Bounded (b .sums)
   pub loans : b .sums .counts .loans ≤ b .header .loans
   pub unscored : b .sums .counts .unscored ≤ b .header .unscored
-  pub other : b .sums .counts .other ≤ mostOther
+  pub other : b .sums .counts .other + b .indexed ≤ mostOther
   pub header-loans : b .header .loans ≤ 1000000
   pub header-unscored : b .header .unscored ≤ b .header .loans
   pub held : b .header .held ≤ 10000000000000
@@ -117,6 +137,7 @@ pub record Sound (s : State) : Type 0 where
   pub book : SoundBook (s .book)
   pub rates : RatesInRange (s .rates)
   pub cells : CellsBounded (s .cells) (4 * s .book .sums .counts .loans)
+  pub index : IndexSound (s .index) (s .book .indexed)
 
 -- Closing, which writes a text into a buffer of at least so many bytes
 

@@ -1,22 +1,23 @@
 -- Demand 2: when, and only when, opening, feeding and closing are refused, and with which number (document 01, "Who can be turned down").
 -- From request L3 on the forms and ranges of the requests of 02 that have landed count as document 01's, and a book is opened and a line
--- taken only where no refusal named in them applies. Up to now that is 10, for a sheet of factors.
+-- taken only where no refusal named in them applies. Up to now these are 10, for a sheet of factors, and 11 and 12, for index values.
 -- Lines are spoken of by `bytesOf`, how a form's data is written, and not by any reader; counts by inequalities. Proved in
 -- proofs/Demand2.antt.
 use Prim.Native.Nat.{ℕ, _+_, _≤_, _<_}
 use mathlib.Core.Path.{_≡_}
 use mathlib.Core.Bool.{false}
-use mathlib.Core.List.{List}
+use mathlib.Core.List.{List, List·Memᴰ}
 use mathlib.Core.Logic.{_↔_, _⊎_}
 use lib.ListN.{length}
 use Rattle.loan_charge.specs.declared.Score.{Score}
 use Rattle.loan_charge.specs.declared.Score.the-variants.{Scored, Unscored}
 use Rattle.sheet.specs.Sheet.{SheetRules}
 use Rattle.line_forms.specs.declared.Header.{Header}
+use Rattle.line_forms.specs.declared.IndexValue.{IndexValue}
 use Rattle.line_forms.specs.declared.Loan.{Loan}
 use Rattle.line_forms.specs.declared.Content.{Content}
 use Rattle.line_forms.specs.declared.Content.the-variants.{Header as header, Loan as loan, Policy as policy, Derivative as derivative, Asset as asset}
-use Rattle.line_forms.specs.declared.Content.the-variants.{Amount as amount, NoForm}
+use Rattle.line_forms.specs.declared.Content.the-variants.{Amount as amount, Index as index, NoForm}
 use Rattle.line_forms.specs.Contents.{inRange}
 use Rattle.line_forms.specs.Claims.{Shows, ShowsInRange, AfterHeader, NoBytes}
 use Rattle.figures.specs.declared.Counts.{Counts}
@@ -35,6 +36,7 @@ OtherForm (policy p) = Unit {0}
 OtherForm (derivative d) = Unit {0}
 OtherForm (asset a) = Unit {0}
 OtherForm (amount a) = Unit {0}
+OtherForm (index i) = Unit {0}
 OtherForm NoForm = ⊥
 
 -- What a line counts as, by its bytes: as a loan, as one without a score, as another line, or as none of them.
@@ -69,25 +71,47 @@ abbrev pub LoanBeyond : Header → Counts → Score → Type 0
 LoanBeyond h c (Scored number age) = h .loans ≤ c .loans
 LoanBeyond h c Unscored = (h .loans ≤ c .loans) ⊎ (h .unscored ≤ c .unscored)
 
--- data of a form other than the header's that keeps to the header's counts and the limit on other lines
-abbrev pub Fits : Header → Counts → Content → Type 0
-Fits h c (header x) = ⊥
-Fits h c (loan l) = LoanFits h c (l .score)
-Fits h c (policy p) = c .other < 100000
-Fits h c (derivative d) = c .other < 100000
-Fits h c (asset a) = c .other < 100000
-Fits h c (amount a) = c .other < 100000
-Fits h c NoForm = ⊥
+-- 02, L4: one of the lines taken is an index line of this area and month
+pub record IsSet (kept : List (List ℕ)) (area month : ℕ) : Type 0 where
+  pub line : List ℕ
+  pub value : ℕ
+  pub taken : List·Memᴰ line kept
+  pub shown : ShowsInRange line (index (record { area = area; month = month; value = value }))
+
+-- the months of loans whose property value goes by the index
+pub record Indexed (l : Loan) : Type 0 where
+  pub least : 200501 ≤ l .from
+  pub most : l .from ≤ 201511
+
+-- a loan that wants no index value but those that are set, and one that wants another
+abbrev pub ValuesSet : List (List ℕ) → Loan → Type 0
+ValuesSet kept l = Indexed l → IsSet kept (l .area) (l .from) × IsSet kept (l .area) 201512
+
+abbrev pub ValueMissing : List (List ℕ) → Loan → Type 0
+ValueMissing kept l = Indexed l × ((IsSet kept (l .area) (l .from) → ⊥) ⊎ (IsSet kept (l .area) 201512 → ⊥))
+
+-- data of a form other than the header's that meets no refusal where the lines `kept` are taken
+abbrev pub Fits : Header → (kept : List (List ℕ)) → Content → Type 0
+Fits h kept (header x) = ⊥
+Fits h kept (loan l) = LoanFits h (countsIn kept) (l .score) × ValuesSet kept l
+Fits h kept (policy p) = countsIn kept .other < 100000
+Fits h kept (derivative d) = countsIn kept .other < 100000
+Fits h kept (asset a) = countsIn kept .other < 100000
+Fits h kept (amount a) = countsIn kept .other < 100000
+Fits h kept (index i) = (countsIn kept .other < 100000) × (IsSet kept (i .area) (i .month) → ⊥)
+Fits h kept NoForm = ⊥
 
 -- n is what feeding s answers under the terms t where the lines `a` are taken
 pub record FeedingAnswer (t : Terms) (a : Accepted) (s : List ℕ) (n : ℕ) : Type 0 where
-  pub taken : (n ≡ 0) ↔ ((c : Content) × ShowsInRange s c × Fits (t .header) (countsIn (a .kept)) c)
+  pub taken : (n ≡ 0) ↔ ((c : Content) × ShowsInRange s c × Fits (t .header) (a .kept) c)
   pub number-1 : (n ≡ 1) ↔ (240 < length s)
   pub number-2 : (n ≡ 2) ↔ ((length s ≤ 240) × NoBytes s)
   pub number-7 : (n ≡ 7) ↔ ((x : Header) × Shows s (header x))
   pub number-3 : (n ≡ 3) ↔ ((c : Content) × AfterHeader c × Shows s c × (inRange c ≡ false))
   pub number-5 : (n ≡ 5) ↔ ((l : Loan) × ShowsInRange s (loan l) × LoanBeyond (t .header) (countsIn (a .kept)) (l .score))
+  pub number-12 : (n ≡ 12) ↔ ((l : Loan) × ShowsInRange s (loan l) × LoanFits (t .header) (countsIn (a .kept)) (l .score) × ValueMissing (a .kept) l)
   pub number-8 : (n ≡ 8) ↔ ((c : Content) × OtherForm c × ShowsInRange s c × (100000 ≤ countsIn (a .kept) .other))
+  pub number-11 : (n ≡ 11) ↔ ((i : IndexValue) × ShowsInRange s (index i) × (countsIn (a .kept) .other < 100000) × IsSet (a .kept) (i .area) (i .month))
 
 -- n is what closing answers there, with a buffer of this size where `least` bytes are asked
 pub record ClosingAnswer (least : ℕ) (t : Terms) (a : Accepted) (size n : ℕ) : Type 0 where

@@ -19,12 +19,12 @@ use Rattle.book_model.specs.Accepted.{Accepted, countsIn, refusalOf, acc
 use Rattle.book_model.specs.Calls.{State, opening, feeding, closing, closed, closingRefusal, reportSize}
 use Rattle.book_model.specs.Exact.{exactRest, exactMoved, requirement}
 use Rattle.book_model.specs.History.{opened, allFed, termsOf, acceptedOf, linesTaken, sumsOf}
-use Rattle.book_model.specs.Terms.{Terms}
+use Rattle.book_model.specs.Terms.{Terms, basisOf}
 
 -- The report computed from the header and the lines taken: the exact rest and moved are rounded up once.
 unfoldable pub figuresFor : Terms → List (List ℕ) → Figures
 figuresFor t kept =
-    figuresFrom (t .header .held) (ceiling (exactRest t kept)) (ceiling (exactMoved t kept)) (sumsOf t kept)
+    figuresFrom (t .header .held) (ceiling (exactRest (basisOf t kept) kept)) (ceiling (exactMoved (basisOf t kept) kept)) (sumsOf t kept)
 
 unfoldable pub reportFor : Terms → List (List ℕ) → List ℕ
 reportFor t kept = reportText (figuresFor t kept)

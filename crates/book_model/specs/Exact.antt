@@ -12,20 +12,20 @@ use Rattle.line_forms.specs.declared.Item.{Item}
 use Rattle.line_forms.specs.declared.Item.the-variants.{Claims, Lossc, Stated, Equity, Aoci, B, C}
 use Rattle.line_forms.specs.declared.Content.{Content}
 use Rattle.line_forms.specs.declared.Content.the-variants.{Header as header, Loan as loan, Policy as policy, Derivative as derivative, Asset as asset}
-use Rattle.line_forms.specs.declared.Content.the-variants.{Amount as amount, NoForm}
+use Rattle.line_forms.specs.declared.Content.the-variants.{Amount as amount, Index as index, NoForm}
 use Rattle.line_forms.specs.Claims.{lineContent}
 use Rattle.line_forms.specs.Readings.{lineOf}
 use Rattle.other_charges.specs.Charges.{assetCharge, shareCharge, claimsPercent, lossComponentsPercent, statedPercent, derivativeCharge, provision}
 use Rattle.other_charges.specs.Charges.{multiProvision}
-use Rattle.book_model.specs.Terms.{Terms, loanInputs}
+use Rattle.book_model.specs.Terms.{Terms, Basis, basisOf, loanInputs}
 use Rattle.book_model.specs.Requirement.{exactRequired}
 
 -- a loan's exact base plus supplement, and its exact supplement
-abbrev pub loanTotal : Terms → Loan → Quantity
-loanTotal t l = totalQuantity (loanInputs t l)
+abbrev pub loanTotal : Basis → Loan → Quantity
+loanTotal g l = totalQuantity (loanInputs g l)
 
-abbrev pub loanSupplement : Terms → Loan → Quantity
-loanSupplement t l = supplementQuantity (loanInputs t l)
+abbrev pub loanSupplement : Basis → Loan → Quantity
+loanSupplement g l = supplementQuantity (loanInputs g l)
 
 -- What a line adds exactly: to rest and moved in cents, and to total and supplement.
 pub record ExactShare : Type 0 where
@@ -65,43 +65,48 @@ exactAmount Aoci n = nothing
 exactAmount B n = nothing
 exactAmount C n = nothing
 
-unfoldable pub exactShare : Terms → Content → ExactShare
-exactShare t (header h) = nothing
-exactShare t (loan l) = record { rest = whole 0; moved = whole 0; total = loanTotal t l; supplement = loanSupplement t l }
-exactShare t (policy p) = exactPolicy (p .class) (p .premium) (p .term) (p .completed)
-exactShare t (derivative d) =
+unfoldable pub exactShare : Basis → Content → ExactShare
+exactShare g (header h) = nothing
+exactShare g (loan l) = record { rest = whole 0; moved = whole 0; total = loanTotal g l; supplement = loanSupplement g l }
+exactShare g (policy p) = exactPolicy (p .class) (p .premium) (p .term) (p .completed)
+exactShare g (derivative d) =
     charged (derivativeCharge (d .kind) (signedCents (d .cost)) (d .notional) (d .months) (d .payments) (d .factor))
-exactShare t (asset a) = charged (assetCharge (a .amount) (a .factor))
-exactShare t (amount a) = exactAmount (a .item) (a .amount .plus)
-exactShare t NoForm = nothing
+exactShare g (asset a) = charged (assetCharge (a .amount) (a .factor))
+exactShare g (amount a) = exactAmount (a .item) (a .amount .plus)
+exactShare g (index i) = nothing
+exactShare g NoForm = nothing
 
 -- of a line
-abbrev pub exactOf : Terms → List ℕ → ExactShare
-exactOf t s = exactShare t (lineContent (lineOf s))
+abbrev pub exactOf : Basis → List ℕ → ExactShare
+exactOf g s = exactShare g (lineContent (lineOf s))
 
 -- the sum over a list of lines
 unfoldable pub sumOver : (List ℕ → Fraction) → List (List ℕ) → Fraction
 sumOver f [] = whole 0
 sumOver f (s ∷ kept) = f s ⊕ sumOver f kept
 
-abbrev pub exactRest : Terms → List (List ℕ) → Fraction
-exactRest t kept = sumOver (λ s. exactOf t s .rest) kept
+abbrev pub exactRest : Basis → List (List ℕ) → Fraction
+exactRest g kept = sumOver (λ s. exactOf g s .rest) kept
 
-abbrev pub exactMoved : Terms → List (List ℕ) → Fraction
-exactMoved t kept = sumOver (λ s. exactOf t s .moved) kept
+abbrev pub exactMoved : Basis → List (List ℕ) → Fraction
+exactMoved g kept = sumOver (λ s. exactOf g s .moved) kept
 
 -- every exponent of every loan (those of its supplement are among those of its total)
-unfoldable pub exponentsOver : Terms → List (List ℕ) → List Fraction
-exponentsOver t [] = []
-exponentsOver t (s ∷ kept) = exactOf t s .total .exponents ++ exponentsOver t kept
+unfoldable pub exponentsOver : Basis → List (List ℕ) → List Fraction
+exponentsOver g [] = []
+exponentsOver g (s ∷ kept) = exactOf g s .total .exponents ++ exponentsOver g kept
 
--- the exact requirement of a header and lines
-unfoldable pub requirement : Terms → List (List ℕ) → Quantity
-requirement t kept = record {
-  exponents = exponentsOver t kept;
+-- the exact requirement of lines that are charged by g
+unfoldable pub requirementBy : Basis → List (List ℕ) → Quantity
+requirementBy g kept = record {
+  exponents = exponentsOver g kept;
   value = λ x. exactRequired
-      (sumOver (λ s. exactOf t s .total .value x) kept)
-      (sumOver (λ s. exactOf t s .supplement .value x) kept)
-      (exactRest t kept)
-      (t .header .held);
+      (sumOver (λ s. exactOf g s .total .value x) kept)
+      (sumOver (λ s. exactOf g s .supplement .value x) kept)
+      (exactRest g kept)
+      (g .terms .header .held);
 }
+
+-- the exact requirement of a book's terms and its lines: each property value by the index values that are among them
+abbrev pub requirement : Terms → List (List ℕ) → Quantity
+requirement t kept = requirementBy (basisOf t kept) kept

@@ -7,7 +7,7 @@ use Rattle.figures.specs.declared.Sums.{Sums}
 use Rattle.figures.specs.Sums.{sumOf}
 use Rattle.book_model.specs.Accepted.{Accepted, noneAccepted, accept}
 use Rattle.book_model.specs.Share.{share}
-use Rattle.book_model.specs.Terms.{Terms, termsFor}
+use Rattle.book_model.specs.Terms.{Terms, Basis, basisOf, termsFor}
 
 pub data History : Type 0 where
   opened : (sheet header : List ℕ) → History
@@ -37,6 +37,10 @@ unfoldable pub allFed : History → List (List ℕ) → History
 allFed h [] = h
 allFed h (line ∷ lines) = allFed (fed h line) lines
 
--- the sums of lines under terms
-unfoldable pub sumsOf : Terms → List (List ℕ) → Sums
-sumsOf t kept = sumOf (map (λ s. share t (lineContent (lineOf s))) kept)
+-- the sums of lines that are charged by g
+unfoldable pub sumsBy : Basis → List (List ℕ) → Sums
+sumsBy g kept = sumOf (map (λ s. share g (lineContent (lineOf s))) kept)
+
+-- under terms, by the index values that are among the lines
+abbrev pub sumsOf : Terms → List (List ℕ) → Sums
+sumsOf t kept = sumsBy (basisOf t kept) kept

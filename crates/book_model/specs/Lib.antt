@@ -1,4 +1,5 @@
 pub mod Accepted
+pub mod AdjustedValues
 pub mod Calls
 pub mod Cells
 pub mod Demand1
@@ -7,6 +8,7 @@ pub mod Demand3
 pub mod Examples
 pub mod Exact
 pub mod History
+pub mod HouseIndex
 pub mod LineKinds
 pub mod LoanTable
 pub mod OwnFactors

@@ -1,11 +1,13 @@
--- What a line is to the counts of a book: a loan with its score, another line, or one refused by its bytes.
-use Prim.Native.Nat.{ℕ}
-use mathlib.Core.List.{List}
+-- What a line is to the counts of a book: a loan, an index value, another line, or one refused by its bytes.
+use Prim.Native.Nat.{ℕ, _+_}
+use mathlib.Core.List.{List, [], _∷_}
 use Rattle.loan_charge.specs.declared.Score.{Score}
 use Rattle.loan_charge.specs.declared.Score.the-variants.{Scored, Unscored}
+use Rattle.line_forms.specs.declared.IndexValue.{IndexValue}
+use Rattle.line_forms.specs.declared.Loan.{Loan}
 use Rattle.line_forms.specs.declared.Content.{Content}
 use Rattle.line_forms.specs.declared.Content.the-variants.{Header as header, Loan as loan, Policy as policy, Derivative as derivative, Asset as asset}
-use Rattle.line_forms.specs.declared.Content.the-variants.{Amount as amount, NoForm}
+use Rattle.line_forms.specs.declared.Content.the-variants.{Amount as amount, Index as index, NoForm}
 use Rattle.line_forms.specs.declared.Line.{Line}
 use Rattle.line_forms.specs.Claims.{lineRefusal, lineContent}
 use Rattle.line_forms.specs.Readings.{lineOf}
@@ -13,18 +15,20 @@ use Rattle.figures.specs.declared.Counts.{Counts}
 use Rattle.figures.specs.Sums.{noCounts}
 
 pub data LineKind : Type 0 where
-  a-loan : Score → LineKind
+  a-loan : Loan → LineKind
+  an-index : IndexValue → LineKind
   another : LineKind
   refused : (number : ℕ) → LineKind
 
 -- by the data that a line holds, where line reading gave the number n
 unfoldable pub contentKind : ℕ → Content → LineKind
 contentKind n (header h) = refused n
-contentKind n (loan l) = a-loan (l .score)
+contentKind n (loan l) = a-loan l
 contentKind n (policy p) = another
 contentKind n (derivative d) = another
 contentKind n (asset a) = another
 contentKind n (amount a) = another
+contentKind n (index i) = an-index i
 contentKind n NoForm = refused n
 
 abbrev pub kindOf : Line → LineKind
@@ -35,11 +39,21 @@ unfoldable pub unscoredCount : Score → ℕ
 unscoredCount (Scored number age) = 0
 unscoredCount Unscored = 1
 
--- how a line of a kind counts
+-- How a line of a kind counts. Index lines count among the lines that are not loans (02, L4).
 unfoldable pub kindCounts : LineKind → Counts
-kindCounts (a-loan score) = record { loans = 1; unscored = unscoredCount score; other = 0 }
+kindCounts (a-loan l) = record { loans = 1; unscored = unscoredCount (l .score); other = 0 }
+kindCounts (an-index i) = record { loans = 0; unscored = 0; other = 1 }
 kindCounts another = record { loans = 0; unscored = 0; other = 1 }
 kindCounts (refused number) = noCounts
 
+-- counts with so many index lines among the lines that are not loans
+abbrev pub withIndexed : Counts → ℕ → Counts
+withIndexed c n = record { loans = c .loans; unscored = c .unscored; other = c .other + n }
+
 abbrev pub lineCounts : List ℕ → Counts
 lineCounts s = kindCounts (kindOf (lineOf s))
+
+-- a number of each line, summed over the lines
+unfoldable pub sumBy : (Content → ℕ) → List (List ℕ) → ℕ
+sumBy f [] = 0
+sumBy f (s ∷ kept) = f (lineContent (lineOf s)) + sumBy f kept

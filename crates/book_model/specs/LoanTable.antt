@@ -4,7 +4,7 @@
 use Prim.Native.Nat.{ℕ, zero, suc, _+_, _*_, _≤_, _<_}
 use mathlib.Core.Path.{_≡_}
 use mathlib.Core.Bool.{_&&_}
-use mathlib.Core.List.{List, [], _∷_, List·Permᴰ}
+use mathlib.Core.List.{List, List·Permᴰ}
 use mathlib.Core.Logic.{_↔_}
 use lib.Dec.{eqb}
 use Rattle.exact.specs.Choice.{pick}
@@ -19,9 +19,11 @@ use Rattle.cell_report.specs.CellReport.{cellsText, cellAt}
 use Rattle.book_model.specs.Accepted.{Accepted}
 use Rattle.book_model.specs.Calls.{State, opening, cellsSize, closingCells, closedCells}
 use Rattle.book_model.specs.Cells.{bandOf, ltvOf, loanBand, loanLtv, ofLoan, loanCell}
+use Rattle.book_model.specs.HouseIndex.{Index}
+use Rattle.book_model.specs.LineKinds.{sumBy}
 use Rattle.book_model.specs.Demand3.{figuresFor, afterLines, Writes, SameTexts}
 use Rattle.book_model.specs.History.{opened, allFed, termsOf, acceptedOf, linesTaken}
-use Rattle.book_model.specs.Terms.{Terms}
+use Rattle.book_model.specs.Terms.{Terms, Basis, basisOf}
 
 -- The bands of scores in inequalities: by the number alone, whatever its age.
 pub record Bands : Type 0 where
@@ -38,30 +40,31 @@ pub record Columns : Type 0 where
   pub to-95 : (p q : ℕ) → (ltvOf p q ≡ 4) ↔ ((90 * p < 100 * q) × (100 * q ≤ 95 * p))
   pub above : (p q : ℕ) → (ltvOf p q ≡ 5) ↔ (95 * p < 100 * q)
 
--- a number of each line, summed over the lines
-unfoldable pub sumBy : (Content → ℕ) → List (List ℕ) → ℕ
-sumBy f [] = 0
-sumBy f (s ∷ kept) = f (lineContent (lineOf s)) + sumBy f kept
-
 -- something of the loans of one band and column
-abbrev pub inCell : (band ltv : ℕ) → (Loan → ℕ) → Content → ℕ
-inCell band ltv f c = ofLoan (λ l. pick (eqb (loanBand l) band && eqb (loanLtv l) ltv) (f l) 0) 0 c
+abbrev pub inCell : Index → (band ltv : ℕ) → (Loan → ℕ) → Content → ℕ
+inCell values band ltv f c = ofLoan (λ l. pick (eqb (loanBand l) band && eqb (loanLtv values l) ltv) (f l) 0) 0 c
 
 -- By the bytes of a line: where it shows a loan of that band and column, that loan's, and else nothing.
-pub record CellAdds (s : List ℕ) (band ltv : ℕ) (f : Loan → ℕ) : Type 0 where
-  pub member : (l : Loan) → ShowsInRange s (loan l) → loanBand l ≡ band → loanLtv l ≡ ltv → inCell band ltv f (lineContent (lineOf s)) ≡ f l
-  pub other : ((l : Loan) → ShowsInRange s (loan l) → loanBand l ≡ band → loanLtv l ≡ ltv → ⊥) → inCell band ltv f (lineContent (lineOf s)) ≡ 0
+pub record CellAdds (values : Index) (s : List ℕ) (band ltv : ℕ) (f : Loan → ℕ) : Type 0 where
+  pub member : (l : Loan) → ShowsInRange s (loan l) → loanBand l ≡ band → loanLtv values l ≡ ltv →
+      inCell values band ltv f (lineContent (lineOf s)) ≡ f l
+  pub other : ((l : Loan) → ShowsInRange s (loan l) → loanBand l ≡ band → loanLtv values l ≡ ltv → ⊥) →
+      inCell values band ltv f (lineContent (lineOf s)) ≡ 0
 
 -- Each cell counts and sums exactly the loans taken of its band and column.
-unfoldable pub cellFor : Terms → List (List ℕ) → (band ltv : ℕ) → Cell
-cellFor t kept band ltv = record {
-  count = sumBy (inCell band ltv (λ l. loanCell t l .count)) kept;
-  balance = sumBy (inCell band ltv (λ l. loanCell t l .balance)) kept;
+unfoldable pub cellBy : Basis → List (List ℕ) → (band ltv : ℕ) → Cell
+cellBy g kept band ltv = record {
+  count = sumBy (inCell (g .index) band ltv (λ l. loanCell g l .count)) kept;
+  balance = sumBy (inCell (g .index) band ltv (λ l. loanCell g l .balance)) kept;
   charge = record {
-    plus = sumBy (inCell band ltv (λ l. loanCell t l .charge .plus)) kept;
-    minus = sumBy (inCell band ltv (λ l. loanCell t l .charge .minus)) kept;
+    plus = sumBy (inCell (g .index) band ltv (λ l. loanCell g l .charge .plus)) kept;
+    minus = sumBy (inCell (g .index) band ltv (λ l. loanCell g l .charge .minus)) kept;
   };
 }
+
+-- under terms, by the index values that are among the lines
+abbrev pub cellFor : Terms → List (List ℕ) → (band ltv : ℕ) → Cell
+cellFor t kept band ltv = cellBy (basisOf t kept) kept band ltv
 
 -- the 60 lines of the lines taken
 unfoldable pub cellsFor : Terms → List (List ℕ) → List ℕ
@@ -97,7 +100,7 @@ SameTables s u =
 pub record LoanTable : Type 0 where
   pub bands : Bands
   pub columns : Columns
-  pub adds : (s : List ℕ) (band ltv : ℕ) (f : Loan → ℕ) → CellAdds s band ltv f
+  pub adds : (values : Index) (s : List ℕ) (band ltv : ℕ) (f : Loan → ℕ) → CellAdds values s band ltv f
   -- Each cell of the table that feeding keeps counts and sums exactly the loans taken of its band and column,
   pub cells : (sheet header : List ℕ) (lines : List (List ℕ)) (band ltv : ℕ) → 1 ≤ band → band ≤ 12 → 1 ≤ ltv → ltv ≤ 5 →
       cellAt (afterLines (opening sheet header .state) lines .cells) band ltv ≡

@@ -13,24 +13,29 @@ use Rattle.line_forms.specs.declared.Item.{Item}
 use Rattle.line_forms.specs.declared.Item.the-variants.{Claims, Lossc, Stated, Equity, Aoci, B, C}
 use Rattle.line_forms.specs.declared.Content.{Content}
 use Rattle.line_forms.specs.declared.Content.the-variants.{Header as header, Loan as loan, Policy as policy, Derivative as derivative, Asset as asset}
-use Rattle.line_forms.specs.declared.Content.the-variants.{Amount as amount, NoForm}
+use Rattle.line_forms.specs.declared.Content.the-variants.{Amount as amount, Index as index, NoForm}
 use Rattle.other_charges.specs.Charges.{claimsPercent, lossComponentsPercent, statedPercent}
 use Rattle.other_charges.specs.Parts.{assetParts, shareParts, derivativeParts, provisionParts}
 use Rattle.figures.specs.declared.Money.{Money}
 use Rattle.figures.specs.declared.Sums.{Sums}
 use Rattle.figures.specs.Sums.{noSums, zeroSigned, zeroMoney, moneyOf}
+use Rattle.book_model.specs.declared.Adjustment.{Adjustment}
+use Rattle.book_model.specs.HouseIndex.{adjustmentOf}
 use Rattle.book_model.specs.LineKinds.{a-loan, another, kindCounts}
-use Rattle.book_model.specs.Terms.{Terms, loanInputs}
+use Rattle.book_model.specs.Terms.{Terms, Basis, inputsWith}
 
 -- the two numbers of a loan
-unfoldable pub loanNumbers : Terms → Loan → LoanCharge
-loanNumbers t l = chargeOf (loanInputs t l)
+unfoldable pub numbersWith : Terms → Adjustment → Loan → LoanCharge
+numbersWith t a l = chargeOf (inputsWith t a l)
 
-unfoldable pub loanShare : Terms → Loan → Sums
-loanShare t l = record {
-  counts = kindCounts (a-loan (l .score));
-  total = loanNumbers t l .total;
-  supplement = loanNumbers t l .supplement;
+abbrev pub loanNumbers : Basis → Loan → LoanCharge
+loanNumbers g l = numbersWith (g .terms) (adjustmentOf (g .index) l) l
+
+unfoldable pub shareWith : Terms → Adjustment → Loan → Sums
+shareWith t a l = record {
+  counts = kindCounts (a-loan l);
+  total = numbersWith t a l .total;
+  supplement = numbersWith t a l .supplement;
   rest = zeroMoney;
   moved = zeroMoney;
   equity = zeroSigned;
@@ -38,6 +43,9 @@ loanShare t l = record {
   b = 0;
   c = 0;
 }
+
+abbrev pub loanShare : Basis → Loan → Sums
+loanShare g l = shareWith (g .terms) (adjustmentOf (g .index) l) l
 
 -- a line that is no loan, with what it adds to each sum
 abbrev pub otherShare : (rest moved : Money) (equity aoci : Signed) (b c : ℕ) → Sums
@@ -90,12 +98,13 @@ amountShare Aoci x = capitalShare zeroSigned x 0 0
 amountShare B x = capitalShare zeroSigned zeroSigned (x .plus) 0
 amountShare C x = capitalShare zeroSigned zeroSigned 0 (x .plus)
 
--- What the data of a line adds; a refused line adds nothing.
-unfoldable pub share : Terms → Content → Sums
-share t (header h) = noSums
-share t (loan l) = loanShare t l
-share t (policy p) = policyShare (p .class) (p .premium) (p .term) (p .completed)
-share t (derivative d) = derivativeShare d
-share t (asset a) = assetShare a
-share t (amount a) = amountShare (a .item) (a .amount)
-share t NoForm = noSums
+-- What the data of a line adds; an index value and a refused line add nothing.
+unfoldable pub share : Basis → Content → Sums
+share g (header h) = noSums
+share g (loan l) = loanShare g l
+share g (policy p) = policyShare (p .class) (p .premium) (p .term) (p .completed)
+share g (derivative d) = derivativeShare d
+share g (asset a) = assetShare a
+share g (amount a) = amountShare (a .item) (a .amount)
+share g (index i) = noSums
+share g NoForm = noSums

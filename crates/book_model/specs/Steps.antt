@@ -12,5 +12,5 @@ abbrev pub notOpened : ℕ → Opened
 notOpened n = record { refusal = n; book = emptyBook zeroHeader }
 
 -- the answer where a line that adds these sums meets the refusal n
-abbrev pub answerWith : ℕ → Book → Sums → Fed
-answerWith n b added = record { refusal = n; book = bookWith n b added }
+abbrev pub answerWith : ℕ → Book → (added : Sums) (indexed : ℕ) → Fed
+answerWith n b added indexed = record { refusal = n; book = bookWith n b added indexed }

@@ -1,5 +1,5 @@
--- What a book is opened under.
-use Prim.Native.Nat.{ℕ}
+-- What a book is opened under, and what its loans are charged by.
+use Prim.Native.Nat.{ℕ, _*_}
 use mathlib.Core.Bool.{false}
 use mathlib.Core.List.{List}
 use lib.Dec.{eqb}
@@ -13,6 +13,8 @@ use Rattle.line_forms.specs.declared.Header.{Header}
 use Rattle.line_forms.specs.declared.HeaderLine.{HeaderLine}
 use Rattle.line_forms.specs.declared.HeaderLine.the-variants.{Header as HeaderRead, Refusal as HeaderRefusal}
 use Rattle.line_forms.specs.declared.Loan.{Loan}
+use Rattle.book_model.specs.declared.Adjustment.{Adjustment}
+use Rattle.book_model.specs.HouseIndex.{Index, adjustmentOf, valuesIn}
 
 -- its header and its table of credit factors
 pub record Terms : Type 0 where
@@ -47,14 +49,26 @@ unfoldable pub factorFor : Terms → Score → ℕ
 factorFor t score =
     creditFactor (t .rates) (onAgedTable (t .header)) (t .header .loans) (t .header .unscored) score
 
+-- What loans are charged by: the terms, and the house price index (02, L4).
+pub record Basis : Type 0 where
+  pub terms : Terms
+  pub index : Index
+
+-- by the values that lines set
+abbrev pub basisOf : Terms → List (List ℕ) → Basis
+basisOf t kept = record { terms = t; index = valuesIn kept }
+
 -- what the charge of a loan depends on
-abbrev pub loanInputs : Terms → Loan → LoanInputs
-loanInputs t l = record {
-  value = l .value;
-  over = l .balance;
+abbrev pub inputsWith : Terms → Adjustment → Loan → LoanInputs
+inputsWith t a l = record {
+  value = l .value * a .last;
+  over = l .balance * a .own;
   balance = l .balance;
   months = l .amortization;
   term = l .term;
   supplement = eqb (l .supplement) 1;
   factor = factorFor t (l .score);
 }
+
+abbrev pub loanInputs : Basis → Loan → LoanInputs
+loanInputs g l = inputsWith (g .terms) (adjustmentOf (g .index) l) l

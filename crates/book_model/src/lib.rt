@@ -2,10 +2,17 @@
 use figures::Sums;
 use line_forms::Header;
 
-// A book: its header, which never changes, and the sums of the lines taken.
+// A book: its header, which never changes, the sums of the lines taken, and how many of these are index lines.
 pub struct Book {
     pub header: Header,
     pub sums: Sums,
+    pub indexed: u64,
+}
+
+// The two values of the house price index by which a property value is adjusted: that of 201512 and that of the loan's month.
+pub struct Adjustment {
+    pub last: u64,
+    pub own: u64,
 }
 
 // The answer of opening: a refusal, 0 for none, and the book.

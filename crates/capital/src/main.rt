@@ -11,6 +11,7 @@ ghost use Rattle.driver.specs.Reading.{readingOf, Running};
 ghost use Rattle.capital.specs.Reads.{ReadsOn, Reached, EndsReading, SheetRead};
 use cell_report::Cells;
 use driver::Run;
+use house_index::Index;
 use loan_charge::charge::Exponentials;
 use loan_charge::credit::Rates;
 use sheet_file::Numbers;
@@ -37,14 +38,16 @@ fn read_once(
     sheet: &[u64],
     rates: &mut Rates,
     cells: &mut Cells,
+    index: &mut Index,
     buf: &mut [u8],
 ) -> Turn
-    requires { ⌜ Running run (now rates) (now cells) × (run .read + length (now buf) ≤ 2 ^ 62) × (now exps ≡ exponentials) ⌝ }
+    requires { ⌜ Running run (now rates) (now cells) (now index) × (run .read + length (now buf) ≤ 2 ^ 62) × (now exps ≡ exponentials) ⌝ }
     ensures reading { λ r.
-        ⌜ ReadsOn (readingOf run (now (sheet .entry)) (now (rates .entry)) (now (cells .entry)))
-        (readingOf (r .run) (now (sheet .entry)) (now (rates .exit)) (now (cells .exit))) (r .count) (now (buf .exit)) ⌝ }
-    ensures running { λ r. ⌜ Running (r .run) (now (rates .exit)) (now (cells .exit)) × (r .run .read ≡ run .read + r .count) ⌝ }
-    ensures ends { λ r. ⌜ EndsReading (readingOf (r .run) (now (sheet .entry)) (now (rates .exit)) (now (cells .exit))) (r .count) (r .more) (r .failed) ⌝ }
+        ⌜ ReadsOn (readingOf run (now (sheet .entry)) (now (rates .entry)) (now (cells .entry)) (now (index .entry)))
+        (readingOf (r .run) (now (sheet .entry)) (now (rates .exit)) (now (cells .exit)) (now (index .exit))) (r .count) (now (buf .exit)) ⌝ }
+    ensures running { λ r. ⌜ Running (r .run) (now (rates .exit)) (now (cells .exit)) (now (index .exit)) × (r .run .read ≡ run .read + r .count) ⌝ }
+    ensures ends { λ r. ⌜ EndsReading (readingOf (r .run) (now (sheet .entry)) (now (rates .exit)) (now (cells .exit)) (now (index .exit))) (r .count)
+        (r .more) (r .failed) ⌝ }
 {
     let got = libc::read(0, buf);
     if got < 0 {
@@ -56,7 +59,7 @@ fn read_once(
         };
     }
     let n = io::count(got, buf);
-    let next = driver::step(run, exps, sheet, rates, cells, &buf[0..n]);
+    let next = driver::step(run, exps, sheet, rates, cells, index, &buf[0..n]);
     let p = next.progress;
     let more = (0 < n) & (p.refusal == 0) & (next.held <= line_forms::LONGEST_LINE);
     Turn {
@@ -73,17 +76,20 @@ fn read_all(
     sheet: &[u64],
     rates: &mut Rates,
     cells: &mut Cells,
+    index: &mut Index,
     buf: &mut [u8],
 ) -> Turn
     requires { ⌜ (now exps ≡ exponentials) × (length (now buf) ≡ 65536) ⌝ }
-    ensures reached { λ r. ⌜ Reached (now (sheet .entry)) (readingOf (r .run) (now (sheet .entry)) (now (rates .exit)) (now (cells .exit))) (r .run .read) ⌝ }
-    ensures running { λ r. ⌜ Running (r .run) (now (rates .exit)) (now (cells .exit)) × (r .run .read ≤ 2 ^ 62) ⌝ }
-    ensures ends { λ r. ⌜ EndsReading (readingOf (r .run) (now (sheet .entry)) (now (rates .exit)) (now (cells .exit))) (r .count) false (r .failed) ⌝ }
+    ensures reached { λ r. ⌜ Reached (now (sheet .entry)) (readingOf (r .run) (now (sheet .entry)) (now (rates .exit)) (now (cells .exit)) (now (index .exit)))
+        (r .run .read) ⌝ }
+    ensures running { λ r. ⌜ Running (r .run) (now (rates .exit)) (now (cells .exit)) (now (index .exit)) × (r .run .read ≤ 2 ^ 62) ⌝ }
+    ensures ends { λ r. ⌜ EndsReading (readingOf (r .run) (now (sheet .entry)) (now (rates .exit)) (now (cells .exit)) (now (index .exit))) (r .count) false
+        (r .failed) ⌝ }
 {
-    let mut run = driver::start(rates, cells);
+    let mut run = driver::start(rates, cells, index);
     let mut turns = MOST_READS;
     while 0 < turns {
-        let turn = read_once(run, exps, sheet, rates, cells, buf);
+        let turn = read_once(run, exps, sheet, rates, cells, index, buf);
         if !turn.more {
             return turn;
         }
@@ -103,15 +109,25 @@ fn print(asked: bool, sheet: &[u64]) {
     let exps = loan_charge::charge::table();
     let mut rates = [0u64; loan_charge::credit::RATES];
     let mut cells = [0u64; cell_report::PLACES];
+    let mut index = [0u64; house_index::PLACES];
     let mut buf = io::large_buffer();
     let mut out = [0u8; OUT];
-    let turn = read_all(&exps, sheet, &mut rates, &mut cells, &mut buf);
+    let turn = read_all(&exps, sheet, &mut rates, &mut cells, &mut index, &mut buf);
     if turn.failed {
         io::write_all(2, b"capital: reading standard input failed\n");
         return;
     }
     let run = turn.run;
-    let n = driver::finish(run, &exps, sheet, &mut rates, &mut cells, asked, &mut out);
+    let n = driver::finish(
+        run,
+        &exps,
+        sheet,
+        &mut rates,
+        &mut cells,
+        &mut index,
+        asked,
+        &mut out,
+    );
     if !io::write_all(1, &out[0..n]) {
         io::write_all(2, b"capital: writing standard output failed\n");
     }

@@ -5,8 +5,9 @@ ghost use lib.Dec.{ltb};
 ghost use lib.ListN.{getD};
 ghost use Rattle.exact.specs.Choice.{pick};
 ghost use Rattle.cell_report.specs.CellReport.{placeOf};
-ghost use Rattle.book_model.specs.Cells.{bandOf, ltvOf, loanBand, loanLtv, addAt, withCell, noCells, CellsBounded};
-ghost use Rattle.book_model.specs.Ranges.{LoanRanges, CellRanges};
+ghost use Rattle.book_model.specs.Cells.{bandOf, ltvOf, loanBand, ltvWith, addAt, withCell, noCells, CellsBounded};
+ghost use Rattle.book_model.specs.Ranges.{LoanRanges, AdjustmentRanges, CellRanges};
+use book_model::Adjustment;
 use cell_report::Cell;
 use cell_report::Cells;
 use line_forms::Loan;
@@ -45,13 +46,15 @@ fn ltv_column(p: u64, q: u64) -> usize
     exceeds(x, 65 * p) + exceeds(x, 80 * p) + exceeds(x, 90 * p) + exceeds(x, 95 * p)
 }
 
-// Where the places of a loan's cell begin.
-pub fn place_of(l: Loan) -> usize
-    requires { ⌜ LoanRanges l ⌝ }
-    ensures { λ r. ⌜ (r ≡ placeOf (loanBand l) (loanLtv l)) × (r ≤ 236) ⌝ }
+// Where the places of a loan's cell begin, by its adjusted property value.
+pub fn place_of(l: Loan, a: Adjustment) -> usize
+    requires { ⌜ LoanRanges l × AdjustmentRanges a ⌝ }
+    ensures { λ r. ⌜ (r ≡ placeOf (loanBand l) (ltvWith a l)) × (r ≤ 236) ⌝ }
 {
     let score = l.score;
-    (score_band(score) * 5 + ltv_column(l.value, l.balance)) * 4
+    let p = l.value * a.last;
+    let q = l.balance * a.own;
+    (score_band(score) * 5 + ltv_column(p, q)) * 4
 }
 
 fn add_at(cells: &mut Cells, at: usize, x: u64)

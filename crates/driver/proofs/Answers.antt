@@ -8,16 +8,15 @@ use lib.ListN.{length, take, drop, length-append}
 use borrow.Author.Tests.{eq-eqb, ne-eqb, le-ltb}
 use Rattle.exact.specs.Choice.{pick}
 use Rattle.exact.specs.Text.{text}
-use Rattle.loan_charge.specs.CreditFactor.{builtInRates}
-use Rattle.loan_charge.proofs.CreditLaws.{built-in}
 use Rattle.report.specs.Decimal.{digits}
 use Rattle.report.specs.Line.{refusalLine, onto, Written}
 use Rattle.report.proofs.Decimal.{digits-length}
 use Rattle.report.proofs.Lines.{two-length}
 use Rattle.report.proofs.Onto.{written-more}
+use Rattle.cell_report.proofs.Laws.{cells-fit}
 use Rattle.book_model.specs.declared.Book.{Book}
 use Rattle.book_model.specs.declared.Closed.{Closed}
-use Rattle.book_model.specs.Calls.{stateAt, tooFew, closingWith, closing, closed, reportSize, reportOf, cellsSize, cellsTextOf, closingCells, closedCells}
+use Rattle.book_model.specs.Calls.{tooFew, closingWith, closing, closed, reportSize, reportOf, cellsSize, cellsTextOf, closingCells, closedCells}
 use Rattle.book_model.specs.Calls.{SoundBook}
 use Rattle.book_model.specs.Cells.{CellsBounded}
 use Rattle.book_model.proofs.Closings.{not-refused, untouched, writes, tells}
@@ -52,7 +51,7 @@ report-room b sound out e h =
 
 -- a table fits the room that its closing asks for
 pub table-room : (b : Book) → SoundBook b → (cells : List ℕ) → CellsBounded cells (4 * b .sums .counts .loans) → length (cellsTextOf cells) ≤ cellsSize
-table-room b sound cells few = demand1 .cells-fit (stateAt b builtInRates cells) (record { book = sound; rates = built-in; cells = few })
+table-room b sound cells few = cells-fit cells (λ i. omega (arith, few .each i, sound .loans, sound .header-loans))
 
 -- Closing a book with room for both texts, which is refused by 6 or not at all.
 module _ (asked : Bool) (b : Book) (cells out : List ℕ) (room : reportSize + cellsSize ≤ length out) where

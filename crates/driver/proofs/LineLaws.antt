@@ -62,11 +62,12 @@ unfolding feedingLine
 fed-rates s line = refl
 
 -- the stage of a progress that an answer gave
-answer-stage : (a : Answer) (number : ℕ) {n : ℕ} {b : Book} {q : Progress} (sheet rates cells : List ℕ) → q ≡ progressAfter n number b →
-    n ≡ a .refusal → b ≡ a .state .book → rates ≡ a .state .rates → cells ≡ a .state .cells → stageAt q sheet rates cells ≡ after a number sheet
-answer-stage a number {n} {b} {q} sheet rates cells p e f g h =
-    ap (λ (x : Progress). stageAt x sheet rates cells) p
-    ∙ (λ i. record { refusal = e i; number = pick (eqb (e i) 0) (number + 1) number; sheet = sheet; state = stateAt (f i) (g i) (h i) })
+answer-stage : (a : Answer) (number : ℕ) {n : ℕ} {b : Book} {q : Progress} (sheet rates cells index : List ℕ) → q ≡ progressAfter n number b →
+    n ≡ a .refusal → b ≡ a .state .book → rates ≡ a .state .rates → cells ≡ a .state .cells → index ≡ a .state .index →
+    stageAt q sheet rates cells index ≡ after a number sheet
+answer-stage a number {n} {b} {q} sheet rates cells index p e f g h k =
+    ap (λ (x : Progress). stageAt x sheet rates cells index) p
+    ∙ (λ i. record { refusal = e i; number = pick (eqb (e i) 0) (number + 1) number; sheet = sheet; state = stateAt (f i) (g i) (h i) (k i) })
 
 -- What end_line ensures: q is the stage it gives.
 abbrev pub Ended : Stage → List ℕ → Stage → Type 0
@@ -82,23 +83,28 @@ ended-by p line q h e = (
 )
 
 -- q is the progress that it gives, and the tables are as the call left them
-module _ (p : Progress) (sheet rates cells line : List ℕ) (sound : Sound (stateAt (p .book) rates cells)) where
-  pub ended-refused : (p .refusal ≡ 0 → ⊥) → Ended (stageAt p sheet rates cells) line (stageAt p sheet rates cells)
+module _ (p : Progress) (sheet rates cells index line : List ℕ) (sound : Sound (stateAt (p .book) rates cells index)) where
+  pub ended-refused : (p .refusal ≡ 0 → ⊥) → Ended (stageAt p sheet rates cells index) line (stageAt p sheet rates cells index)
   ended-refused h =
-      ended-by (stageAt p sheet rates cells) line (stageAt p sheet rates cells) sound (line-refused (stageAt p sheet rates cells) line h)
+      ended-by (stageAt p sheet rates cells index) line (stageAt p sheet rates cells index) sound (line-refused (stageAt p sheet rates cells index) line h)
 
-  pub ended-opened : (o : Opened) (q : Progress) (after-rates after-cells : List ℕ) → p .refusal ≡ 0 → p .number ≡ 1 →
+  pub ended-opened : (o : Opened) (q : Progress) (after-rates after-cells after-index : List ℕ) → p .refusal ≡ 0 → p .number ≡ 1 →
       o ≡ openedOf (opening sheet line) → after-rates ≡ opening sheet line .state .rates → after-cells ≡ opening sheet line .state .cells →
-      q ≡ progressAfter (o .refusal) (p .number) (o .book) → Ended (stageAt p sheet rates cells) line (stageAt q sheet after-rates after-cells)
-  ended-opened o q after-rates after-cells e f g m k h =
-      ended-by (stageAt p sheet rates cells) line (stageAt q sheet after-rates after-cells) sound
-      (answer-stage (opening sheet line) (p .number) sheet after-rates after-cells h (ap (λ (x : Opened). x .refusal) g) (ap (λ (x : Opened). x .book) g) m k
-      ∙ line-opens (stageAt p sheet rates cells) line e f)
+      after-index ≡ opening sheet line .state .index →
+      q ≡ progressAfter (o .refusal) (p .number) (o .book) →
+      Ended (stageAt p sheet rates cells index) line (stageAt q sheet after-rates after-cells after-index)
+  ended-opened o q after-rates after-cells after-index e f g m k n h =
+      ended-by (stageAt p sheet rates cells index) line (stageAt q sheet after-rates after-cells after-index) sound
+      (answer-stage (opening sheet line) (p .number) sheet after-rates after-cells after-index h (ap (λ (x : Opened). x .refusal) g)
+      (ap (λ (x : Opened). x .book) g) m k n
+      ∙ line-opens (stageAt p sheet rates cells index) line e f)
 
-  pub ended-fed : (o : Fed) (q : Progress) (after-cells : List ℕ) → p .refusal ≡ 0 → (p .number ≡ 1 → ⊥) →
-      o ≡ fedOf (feeding (stateAt (p .book) rates cells) line) → after-cells ≡ feeding (stateAt (p .book) rates cells) line .state .cells →
-      q ≡ progressAfter (o .refusal) (p .number) (o .book) → Ended (stageAt p sheet rates cells) line (stageAt q sheet rates after-cells)
-  ended-fed o q after-cells e f g k h =
-      ended-by (stageAt p sheet rates cells) line (stageAt q sheet rates after-cells) sound
-      (answer-stage (feeding (stateAt (p .book) rates cells) line) (p .number) sheet rates after-cells h (ap (λ (x : Fed). x .refusal) g)
-      (ap (λ (x : Fed). x .book) g) (sym (fed-rates (stateAt (p .book) rates cells) line)) k ∙ line-fed (stageAt p sheet rates cells) line e f)
+  pub ended-fed : (o : Fed) (q : Progress) (after-cells after-index : List ℕ) → p .refusal ≡ 0 → (p .number ≡ 1 → ⊥) →
+      o ≡ fedOf (feeding (stateAt (p .book) rates cells index) line) → after-cells ≡ feeding (stateAt (p .book) rates cells index) line .state .cells →
+      after-index ≡ feeding (stateAt (p .book) rates cells index) line .state .index →
+      q ≡ progressAfter (o .refusal) (p .number) (o .book) → Ended (stageAt p sheet rates cells index) line (stageAt q sheet rates after-cells after-index)
+  ended-fed o q after-cells after-index e f g k n h =
+      ended-by (stageAt p sheet rates cells index) line (stageAt q sheet rates after-cells after-index) sound
+      (answer-stage (feeding (stateAt (p .book) rates cells index) line) (p .number) sheet rates after-cells after-index h (ap (λ (x : Fed). x .refusal) g)
+      (ap (λ (x : Fed). x .book) g) (sym (fed-rates (stateAt (p .book) rates cells index) line)) k n
+      ∙ line-fed (stageAt p sheet rates cells index) line e f)

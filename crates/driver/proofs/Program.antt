@@ -1,5 +1,5 @@
 -- What the program prints of every input. Assumes nothing.
-use mathlib.Core.Path.{_≡_, refl, sym, _∙_, ap, ap₂}
+use mathlib.Core.Path.{_≡_, refl, sym, _∙_, ap, ap₂, subst}
 use mathlib.Core.Bool.{Bool, true, false}
 use mathlib.Core.List.{List, [], _∷_, _++_, append-assoc, append-nil, List·Permᴰ}
 use Prim.Native.Nat.{ℕ, _+_, _≤_}
@@ -22,6 +22,7 @@ use Rattle.book_model.proofs.Closings.{few, enough}
 use Rattle.book_model.proofs.Demand2.{openings, feeding-answer}
 use Rattle.book_model.proofs.Demand3.{opened-is, terms-stay, report-is, report-permuted, measured-of, terms-in-range}
 use Rattle.book_model.proofs.Examples.{twelve, counts-none}
+use Rattle.book_model.proofs.Ledger.{Good, good-of}
 use Rattle.book_model.proofs.LoanTable.{cells-text, cell-sums, cells-permuted}
 use Rattle.book_model.proofs.Steps.{stateOf, counts, step}
 use Rattle.driver.specs.Printed.{lastOf, linesFrom, linesOf, withTable, printedAtEnd, printedFeeding, printedLines, printed}
@@ -58,12 +59,17 @@ accepted-more t before line e = rw (eq-eqb (refusalOf t (record { kept = before 
 unfoldable stateFor : (sheet header : List ℕ) (lines : List (List ℕ)) → State
 stateFor sheet header lines = stateOf (termsOf (opened sheet header)) (record { kept = lines })
 
+-- lines that are all taken keep to what every history's accepted lines do
+good : {sheet header : List ℕ} {lines : List (List ℕ)} → AllTaken sheet header lines → Good lines
+good {sheet} {header} {lines} h = subst (λ (l : List (List ℕ)). Good l) (h .taken) (good-of (allFed (opened sheet header) lines))
+
 -- with one line more
-fed-taken : (sheet header : List ℕ) (before : List (List ℕ)) (line : List ℕ) → refusalOf (termsOf (opened sheet header)) (record { kept = before }) line ≡ 0 →
+fed-taken : (sheet header : List ℕ) (before : List (List ℕ)) (line : List ℕ) → AllTaken sheet header before →
+    refusalOf (termsOf (opened sheet header)) (record { kept = before }) line ≡ 0 →
     feeding (stateFor sheet header before) line ≡ record { refusal = 0; state = stateFor sheet header (before ++ (line ∷ [])) }
 unfolding stateFor
-fed-taken sheet header before line z =
-    step (termsOf (opened sheet header)) (record { kept = before }) line
+fed-taken sheet header before line h z =
+    step (termsOf (opened sheet header)) (record { kept = before }) (good h) line
     ∙ (λ i. record { refusal = z i; state = stateOf (termsOf (opened sheet header)) (accepted-more (termsOf (opened sheet header)) before line z i) })
 
 -- what is printed at their end, from the lines alone
@@ -89,7 +95,7 @@ at-end asked sheet header lines h = go (tooFew (termsOf (opened sheet header) .h
     go true e = too-few header lines h (few (termsOf (opened sheet header) .header) (countsIn lines) .0 e)
     go false e =
         let k = enough (termsOf (opened sheet header) .header) (countsIn lines) .0 e in
-        report header lines h (k .0) (k .1) (measured-of (termsOf (opened sheet header)) (terms-in-range (opened sheet header)) lines)
+        report header lines h (k .0) (k .1) (measured-of (termsOf (opened sheet header)) (terms-in-range (opened sheet header)) lines (good h))
         (cell-sums (termsOf (opened sheet header)) lines)
 
 -- and of lines after those
@@ -100,7 +106,7 @@ unfolding printedFeeding stateFor
 feeding-on asked sheet header before [] h number e = rw (append-nil before, e, end-is asked sheet header before (2 + length before))
     (at-end asked sheet header before h)
 feeding-on asked sheet header before (line ∷ lines) h number e =
-    rw (step (termsOf (opened sheet header)) (record { kept = before }) line)
+    rw (step (termsOf (opened sheet header)) (record { kept = before }) (good h) line)
     (go (eqb (refusalOf (termsOf (opened sheet header)) (record { kept = before }) line) 0) refl (feeding-on asked sheet header (before ++ (line ∷ [])) lines))
   where
     n : ℕ
@@ -205,7 +211,7 @@ all-fed asked sheet header before (line ∷ lines) number h k e =
         let z : refusalOf (termsOf (opened sheet header)) (record { kept = before }) line ≡ 0 = eqb-true n 0 f in
         let m : length (before ++ (line ∷ [])) ≡ length before + 1 = length-append before (line ∷ []) in
         let same : (before ++ (line ∷ [])) ++ lines ≡ before ++ (line ∷ lines) = append-assoc before (line ∷ []) lines in
-        rw (fed-taken sheet header before line z)
+        rw (fed-taken sheet header before line h z)
         (ih (number + 1) (taken-more sheet header before line h z) (rw same k) (omega arith)
         ∙ ap (λ (l : List (List ℕ)). printedAtEnd asked (stateFor sheet header l .book) (stateFor sheet header l .cells) (2 + length l)) same)
     go false f ih = absurd (none-refused sheet header before line lines h k f)

@@ -14,6 +14,7 @@ ghost use Rattle.driver.specs.Reading.{withLine, unbroken, mostHeld, wit
 ghost use Rattle.driver.specs.Printed.{printedAtEnd, printedWith, printedFor, ended, PrintsWhole};
 use book_model::Book;
 use cell_report::Cells;
+use house_index::Index;
 use line_forms::Header;
 use loan_charge::charge::Exponentials;
 use loan_charge::credit::Rates;
@@ -47,13 +48,14 @@ fn no_bytes() -> [u8; TAIL]
 }
 
 // Before any byte is read: what stands is the value of a refused opening.
-pub fn start(rates: &mut Rates, cells: &mut Cells) -> Run
-    ensures equation { λ r. ⌜ AtStart r (now (rates .exit)) (now (cells .exit)) ⌝ }
-    ensures running { λ r. ⌜ Running r (now (rates .exit)) (now (cells .exit)) ⌝ }
+pub fn start(rates: &mut Rates, cells: &mut Cells, index: &mut Index) -> Run
+    ensures equation { λ r. ⌜ AtStart r (now (rates .exit)) (now (cells .exit)) (now (index .exit)) ⌝ }
+    ensures running { λ r. ⌜ Running r (now (rates .exit)) (now (cells .exit)) (now (index .exit)) ⌝ }
     ensures none { λ r. ⌜ r .read ≡ 0 ⌝ }
 {
     *rates = sheet::built_in_rates();
     cells::clear(cells);
+    house_index::clear(index);
     let header = Header {
         loans: 0,
         unscored: 0,
@@ -63,6 +65,7 @@ pub fn start(rates: &mut Rates, cells: &mut Cells) -> Run
     let book = Book {
         header,
         sums: figures::none(),
+        indexed: 0,
     };
     Run {
         progress: Progress {
@@ -96,13 +99,14 @@ fn end_line(
     sheet: &[u64],
     rates: &mut Rates,
     cells: &mut Cells,
+    index: &mut Index,
     line: &[u8],
 ) -> Progress
-    requires { ⌜ Sound (stateAt (p .book) (now rates) (now cells)) × (p .number < 2 ^ 63) × (now exps ≡ exponentials) ⌝ }
+    requires { ⌜ Sound (stateAt (p .book) (now rates) (now cells) (now index)) × (p .number < 2 ^ 63) × (now exps ≡ exponentials) ⌝ }
     ensures equation { λ r.
-        ⌜ stageAt r (now (sheet .entry)) (now (rates .exit)) (now (cells .exit)) ≡
-        withLine (stageAt p (now (sheet .entry)) (now (rates .entry)) (now (cells .entry))) (now (line .entry)) ⌝ }
-    ensures sound { λ r. ⌜ Sound (stateAt (r .book) (now (rates .exit)) (now (cells .exit))) ⌝ }
+        ⌜ stageAt r (now (sheet .entry)) (now (rates .exit)) (now (cells .exit)) (now (index .exit)) ≡
+        withLine (stageAt p (now (sheet .entry)) (now (rates .entry)) (now (cells .entry)) (now (index .entry))) (now (line .entry)) ⌝ }
+    ensures sound { λ r. ⌜ Sound (stateAt (r .book) (now (rates .exit)) (now (cells .exit)) (now (index .exit))) ⌝ }
     ensures number { λ r. ⌜ r .number ≤ p .number + 1 ⌝ }
 {
     if p.refusal != 0 {
@@ -110,12 +114,12 @@ fn end_line(
     }
     let number = p.number;
     if number == 1 {
-        let opened = book::open_sheet(line, sheet, rates, cells);
+        let opened = book::open_sheet(line, sheet, rates, cells, index);
         let book = opened.book;
         return answered(opened.refusal, number, book);
     }
     let before = p.book;
-    let fed = book::feed_with(before, exps, rates, cells, line);
+    let fed = book::feed_with(before, exps, rates, cells, index, line);
     let book = fed.book;
     answered(fed.refusal, number, book)
 }
@@ -133,15 +137,17 @@ fn lines(
     sheet: &[u64],
     rates: &mut Rates,
     cells: &mut Cells,
+    index: &mut Index,
     bytes: &[u8],
 ) -> LinesRead
-    requires { ⌜ Sound (stateAt (before .book) (now rates) (now cells)) × (before .number + length (now bytes) < 2 ^ 63) × (now exps ≡ exponentials) ⌝ }
+    requires { ⌜ Sound (stateAt (before .book) (now rates) (now cells) (now index)) × (before .number + length (now bytes) < 2 ^ 63) ×
+        (now exps ≡ exponentials) ⌝ }
     ensures equation { λ r.
-        ⌜ record { stage = stageAt (r .progress) (now (sheet .entry)) (now (rates .exit)) (now (cells .exit)); tail = [] } ≡
-        withBytes (record { stage = stageAt before (now (sheet .entry)) (now (rates .entry)) (now (cells .entry)); tail = [] })
+        ⌜ record { stage = stageAt (r .progress) (now (sheet .entry)) (now (rates .exit)) (now (cells .exit)) (now (index .exit)); tail = [] } ≡
+        withBytes (record { stage = stageAt before (now (sheet .entry)) (now (rates .entry)) (now (cells .entry)) (now (index .entry)); tail = [] })
         (take (r .rest) (now (bytes .entry))) ⌝ }
     ensures rest { λ r. ⌜ (r .rest ≤ length (now (bytes .entry))) × (unbroken (drop (r .rest) (now (bytes .entry))) ≡ true) ⌝ }
-    ensures sound { λ r. ⌜ Sound (stateAt (r .progress .book) (now (rates .exit)) (now (cells .exit))) ⌝ }
+    ensures sound { λ r. ⌜ Sound (stateAt (r .progress .book) (now (rates .exit)) (now (cells .exit)) (now (index .exit))) ⌝ }
     ensures number { λ r. ⌜ r .progress .number ≤ before .number + r .rest ⌝ }
 {
     let size = bytes.len();
@@ -155,7 +161,7 @@ fn lines(
                 rest: i,
             };
         }
-        p = end_line(p, exps, sheet, rates, cells, &bytes[i..end]);
+        p = end_line(p, exps, sheet, rates, cells, index, &bytes[i..end]);
         i = end + 1;
     }
     LinesRead {
@@ -201,18 +207,19 @@ fn end_held(
     sheet: &[u64],
     rates: &mut Rates,
     cells: &mut Cells,
+    index: &mut Index,
 ) -> Progress
-    requires { ⌜ Sound (stateAt (p .book) (now rates) (now cells)) × (p .number + 242 < 2 ^ 63) × (now exps ≡ exponentials)
+    requires { ⌜ Sound (stateAt (p .book) (now rates) (now cells) (now index)) × (p .number + 242 < 2 ^ 63) × (now exps ≡ exponentials)
         × (held ≤ mostHeld) × (length (now tail) ≡ 242) × (unbroken (take held (now tail)) ≡ true) ⌝ }
     ensures equation { λ r.
-        ⌜ stageAt r (now (sheet .entry)) (now (rates .exit)) (now (cells .exit)) ≡
-        withLine (stageAt p (now (sheet .entry)) (now (rates .entry)) (now (cells .entry))) (take held (now (tail .entry))) ⌝ }
-    ensures sound { λ r. ⌜ Sound (stateAt (r .book) (now (rates .exit)) (now (cells .exit))) ⌝ }
+        ⌜ stageAt r (now (sheet .entry)) (now (rates .exit)) (now (cells .exit)) (now (index .exit)) ≡
+        withLine (stageAt p (now (sheet .entry)) (now (rates .entry)) (now (cells .entry)) (now (index .entry))) (take held (now (tail .entry))) ⌝ }
+    ensures sound { λ r. ⌜ Sound (stateAt (r .book) (now (rates .exit)) (now (cells .exit)) (now (index .exit))) ⌝ }
     ensures number { λ r. ⌜ r .number ≤ p .number + 1 ⌝ }
 {
     tail[held] = b'\n';
     let end = held + 1;
-    let read = lines(p, exps, sheet, rates, cells, &tail[0..end]);
+    let read = lines(p, exps, sheet, rates, cells, index, &tail[0..end]);
     read.progress
 }
 
@@ -224,19 +231,22 @@ fn read_lines(
     sheet: &[u64],
     rates: &mut Rates,
     cells: &mut Cells,
+    index: &mut Index,
     bytes: &[u8],
     read: usize,
 ) -> Run
-    requires { ⌜ Sound (stateAt (p .book) (now rates) (now cells)) × (p .number + length (now bytes) ≤ 1 + read) × (read ≤ 2 ^ 62) × (now exps ≡ exponentials)
+    requires { ⌜ Sound (stateAt (p .book) (now rates) (now cells) (now index)) × (p .number + length (now bytes) ≤ 1 + read) × (read ≤ 2 ^ 62) ×
+        (now exps ≡ exponentials)
         × (length before ≡ 242) ⌝ }
     ensures equation { λ r.
-        ⌜ readingOf r (now (sheet .entry)) (now (rates .exit)) (now (cells .exit)) ≡
-        withBytes (record { stage = stageAt p (now (sheet .entry)) (now (rates .entry)) (now (cells .entry)); tail = [] }) (now (bytes .entry)) ⌝ }
-    ensures running { λ r. ⌜ Running r (now (rates .exit)) (now (cells .exit)) ⌝ }
+        ⌜ readingOf r (now (sheet .entry)) (now (rates .exit)) (now (cells .exit)) (now (index .exit)) ≡
+        withBytes (record { stage = stageAt p (now (sheet .entry)) (now (rates .entry)) (now (cells .entry)) (now (index .entry)); tail = [] })
+        (now (bytes .entry)) ⌝ }
+    ensures running { λ r. ⌜ Running r (now (rates .exit)) (now (cells .exit)) (now (index .exit)) ⌝ }
     ensures read { λ r. ⌜ r .read ≡ read ⌝ }
 {
     let size = bytes.len();
-    let all = lines(p, exps, sheet, rates, cells, bytes);
+    let all = lines(p, exps, sheet, rates, cells, index, bytes);
     let rest = all.rest;
     let mut tail = before;
     let held = hold(&mut tail, 0, &bytes[rest..size]);
@@ -256,13 +266,14 @@ pub fn step(
     sheet: &[u64],
     rates: &mut Rates,
     cells: &mut Cells,
+    index: &mut Index,
     chunk: &[u8],
 ) -> Run
-    requires { ⌜ Running run (now rates) (now cells) × (run .read + length (now chunk) ≤ 2 ^ 62) × (now exps ≡ exponentials) ⌝ }
+    requires { ⌜ Running run (now rates) (now cells) (now index) × (run .read + length (now chunk) ≤ 2 ^ 62) × (now exps ≡ exponentials) ⌝ }
     ensures equation { λ r.
-        ⌜ readingOf r (now (sheet .entry)) (now (rates .exit)) (now (cells .exit)) ≡
-        withBytes (readingOf run (now (sheet .entry)) (now (rates .entry)) (now (cells .entry))) (now (chunk .entry)) ⌝ }
-    ensures running { λ r. ⌜ Running r (now (rates .exit)) (now (cells .exit)) ⌝ }
+        ⌜ readingOf r (now (sheet .entry)) (now (rates .exit)) (now (cells .exit)) (now (index .exit)) ≡
+        withBytes (readingOf run (now (sheet .entry)) (now (rates .entry)) (now (cells .entry)) (now (index .entry))) (now (chunk .entry)) ⌝ }
+    ensures running { λ r. ⌜ Running r (now (rates .exit)) (now (cells .exit)) (now (index .exit)) ⌝ }
     ensures read { λ r. ⌜ r .read ≡ run .read + length (now (chunk .entry)) ⌝ }
 {
     let size = chunk.len();
@@ -271,7 +282,7 @@ pub fn step(
     let held = run.held;
     let mut tail = run.tail;
     if held == 0 {
-        return read_lines(p, tail, exps, sheet, rates, cells, chunk, read);
+        return read_lines(p, tail, exps, sheet, rates, cells, index, chunk, read);
     }
     let end = newlines::line_end(chunk, 0);
     let n = hold(&mut tail, held, &chunk[0..end]);
@@ -283,7 +294,7 @@ pub fn step(
             read,
         };
     }
-    let next = end_held(p, &mut tail, n, exps, sheet, rates, cells);
+    let next = end_held(p, &mut tail, n, exps, sheet, rates, cells, index);
     let from = end + 1;
     read_lines(
         next,
@@ -292,6 +303,7 @@ pub fn step(
         sheet,
         rates,
         cells,
+        index,
         &chunk[from..size],
         read,
     )
@@ -347,16 +359,19 @@ pub fn finish(
     sheet: &[u64],
     rates: &mut Rates,
     cells: &mut Cells,
+    index: &mut Index,
     asked: bool,
     out: &mut [u8],
 ) -> usize
-    requires { ⌜ Running run (now rates) (now cells) × (run .read ≤ 2 ^ 62) × (now exps ≡ exponentials)
+    requires { ⌜ Running run (now rates) (now cells) (now index) × (run .read ≤ 2 ^ 62) × (now exps ≡ exponentials)
         × (reportSize + cellsSize ≤ length (now out)) ⌝ }
     ensures equation { λ r.
-        ⌜ Written (now (out .entry)) (printedFor asked (ended (readingOf run (now (sheet .entry)) (now (rates .entry)) (now (cells .entry))))) r
+        ⌜ Written (now (out .entry)) (printedFor asked
+        (ended (readingOf run (now (sheet .entry)) (now (rates .entry)) (now (cells .entry)) (now (index .entry))))) r
         (now (out .exit)) ⌝ }
     ensures whole { λ r.
-        ⌜ PrintsWhole asked (readingOf run (now (sheet .entry)) (now (rates .entry)) (now (cells .entry))) (now (out .entry)) r (now (out .exit)) ⌝ }
+        ⌜ PrintsWhole asked (readingOf run (now (sheet .entry)) (now (rates .entry)) (now (cells .entry)) (now (index .entry))) (now (out .entry)) r
+        (now (out .exit)) ⌝ }
 {
     let p = run.progress;
     let unended = run.held;
@@ -364,6 +379,6 @@ pub fn finish(
         return put_answer(p, cells, asked, out);
     }
     let mut tail = run.tail;
-    let last = end_held(p, &mut tail, unended, exps, sheet, rates, cells);
+    let last = end_held(p, &mut tail, unended, exps, sheet, rates, cells, index);
     put_answer(last, cells, asked, out)
 }

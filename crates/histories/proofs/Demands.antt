@@ -1,7 +1,7 @@
--- Demands 1 to 3 of the calls, and requests L1 and L3, from the theorems about the definitions that their contracts cite. Assumes nothing.
+-- Demands 1 to 3 of the calls, and requests L1, L3 and L4, from the theorems about the definitions that their contracts cite. Assumes nothing.
 use mathlib.Core.Path.{_≡_, refl, sym, _∙_, ap, ap₂, subst}
-use mathlib.Core.List.{List}
-use Prim.Native.Nat.{ℕ}
+use mathlib.Core.List.{List, [], _∷_}
+use Prim.Native.Nat.{ℕ, _≤_}
 use lib.ListN.{length, take}
 use Rattle.loan_charge.specs.CreditFactor.{builtInSheet, ratesOf}
 use Rattle.sheet.specs.Sheet.{SheetRules}
@@ -14,49 +14,56 @@ use Rattle.book_model.specs.Accepted.{Accepted}
 use Rattle.book_model.specs.Calls.{State, Answer, stateAt, termsIn, openedOf, fedOf, opening, feedingLine, feeding, closing, closed, closingCells, Sound}
 use Rattle.book_model.specs.Calls.{reportSize, cellsSize, closedCells}
 use Rattle.book_model.specs.Demand3.{Writes, Closes, SameTexts, SameReports}
-use Rattle.book_model.specs.History.{History, sheetOf, termsOf, acceptedOf, linesTaken}
+use Rattle.book_model.specs.History.{History, fed, allFed, sheetOf, termsOf, acceptedOf, linesTaken}
 use Rattle.book_model.specs.LoanTable.{WritesCells, SameTables}
-use Rattle.book_model.specs.Terms.{Terms, under}
+use Rattle.book_model.specs.HouseIndex.{InTable, valuesIn, valuesAt}
+use Rattle.book_model.specs.Terms.{Terms, basisOf, under}
+use Rattle.book_model.proofs.AdjustedValues.{adjusted-values}
 use Rattle.book_model.proofs.Demand1.{demand1}
 use Rattle.book_model.proofs.Demand2.{openings, feeding-answer, closing-answer}
 use Rattle.book_model.proofs.Demand3.{opened-is, fed-is, terms-in-range, closes-of, measured-of, same-reports}
 use Rattle.book_model.proofs.LoanTable.{cell-is, cell-sums, cells-written, same-tables}
+use Rattle.book_model.proofs.IndexTables.{values-are}
+use Rattle.book_model.proofs.Ledger.{good-of}
 use Rattle.book_model.proofs.OwnFactors.{own-factors}
+use Rattle.book_model.proofs.SetValues.{not-set}
 use Rattle.book_model.proofs.Steps.{stateOf}
-use Rattle.histories.specs.Demands.{CallsDemand1, CallsDemand2, CallsDemand3, CallsLoanTable, CallsOwnFactors}
+use Rattle.histories.specs.Demands.{CallsDemand1, CallsDemand2, CallsDemand3, CallsLoanTable, CallsOwnFactors, CallsAdjustedValues}
 use Rattle.histories.specs.Given.{OpeningCall, by-open, by-open-sheet, FeedingCall, by-feed, by-feed-with, CloseCall, CellsCall}
 use Rattle.histories.specs.Given.{Given, by-opening, by-feeding}
 
 -- What each call gave, by its contract
 
--- from the three parts that a contract tells
-opened-parts : (sheet line : List ℕ) {r : Opened} {rates cells : List ℕ} → r ≡ openedOf (opening sheet line) → rates ≡ opening sheet line .state .rates →
-    cells ≡ opening sheet line .state .cells → record { refusal = r .refusal; state = stateAt (r .book) rates cells } ≡ opening sheet line
-opened-parts sheet line e f g = λ i. record { refusal = e i .refusal; state = stateAt (e i .book) (f i) (g i) }
+-- from the four parts that a contract tells
+opened-parts : (sheet line : List ℕ) {r : Opened} {rates cells index : List ℕ} → r ≡ openedOf (opening sheet line) →
+    rates ≡ opening sheet line .state .rates → cells ≡ opening sheet line .state .cells → index ≡ opening sheet line .state .index →
+    record { refusal = r .refusal; state = stateAt (r .book) rates cells index } ≡ opening sheet line
+opened-parts sheet line e f g k = λ i. record { refusal = e i .refusal; state = stateAt (e i .book) (f i) (g i) (k i) }
 
 opened-by : {sheet line : List ℕ} {a : Answer} → OpeningCall sheet line a → a ≡ opening sheet line
 opened-by (by-open c) =
-    sym (c .gave) ∙ opened-parts _ _ (c .learnt .0) (c .learnt .1 .0) (c .learnt .1 .1 .0) ∙ ap (opening builtInSheet) (c .lent)
+    sym (c .gave) ∙ opened-parts _ _ (c .learnt .0) (c .learnt .1 .0) (c .learnt .1 .1 .0) (c .learnt .1 .1 .1 .0) ∙ ap (opening builtInSheet) (c .lent)
 opened-by (by-open-sheet c) =
-    sym (c .gave) ∙ opened-parts _ _ (c .learnt .0) (c .learnt .1 .0) (c .learnt .1 .1 .0) ∙ ap₂ opening (c .factors) (c .lent)
+    sym (c .gave) ∙ opened-parts _ _ (c .learnt .0) (c .learnt .1 .0) (c .learnt .1 .1 .0) (c .learnt .1 .1 .1 .0) ∙ ap₂ opening (c .factors) (c .lent)
 
 -- feeding leaves the rates
-fed-state : (s : State) (line : List ℕ) → feeding s line .state ≡ stateAt (feeding s line .state .book) (s .rates) (feeding s line .state .cells)
+fed-state : (s : State) (line : List ℕ) →
+    feeding s line .state ≡ stateAt (feeding s line .state .book) (s .rates) (feeding s line .state .cells) (feeding s line .state .index)
 unfolding feedingLine
 fed-state s line = refl
 
--- from the two parts that a contract tells
-fed-parts : (s : State) (line : List ℕ) {r : Fed} {cells : List ℕ} → r ≡ fedOf (feeding s line) → cells ≡ feeding s line .state .cells →
-    record { refusal = r .refusal; state = stateAt (r .book) (s .rates) cells } ≡ feeding s line
-fed-parts s line e f =
-    (λ i. record { refusal = e i .refusal; state = stateAt (e i .book) (s .rates) (f i) })
+-- from the three parts that a contract tells
+fed-parts : (s : State) (line : List ℕ) {r : Fed} {cells index : List ℕ} → r ≡ fedOf (feeding s line) → cells ≡ feeding s line .state .cells →
+    index ≡ feeding s line .state .index → record { refusal = r .refusal; state = stateAt (r .book) (s .rates) cells index } ≡ feeding s line
+fed-parts s line e f g =
+    (λ i. record { refusal = e i .refusal; state = stateAt (e i .book) (s .rates) (f i) (g i) })
     ∙ (λ i. record { refusal = feeding s line .refusal; state = sym (fed-state s line) i })
 
 fed-by : {s : State} {line : List ℕ} {a : Answer} → FeedingCall s line a → a ≡ feeding s line
 fed-by (by-feed c) =
-    sym (c .gave) ∙ fed-parts _ _ (c .learnt .0) (c .learnt .1 .0) ∙ ap₂ feeding (c .handed) (c .lent)
+    sym (c .gave) ∙ fed-parts _ _ (c .learnt .0) (c .learnt .1 .0) (c .learnt .1 .1 .0) ∙ ap₂ feeding (c .handed) (c .lent)
 fed-by (by-feed-with c) =
-    sym (c .gave) ∙ fed-parts _ _ (c .learnt .0) (c .learnt .1 .0) ∙ ap₂ feeding (c .handed) (c .lent)
+    sym (c .gave) ∙ fed-parts _ _ (c .learnt .0) (c .learnt .1 .0) (c .learnt .1 .1 .0) ∙ ap₂ feeding (c .handed) (c .lent)
 
 closed-by : {b : Book} {buffer after : List ℕ} {r : Closed} → CloseCall b buffer r after → (r ≡ closing b (length buffer)) × (after ≡ closed b buffer)
 closed-by c = (
@@ -78,7 +85,7 @@ given (by-feeding {h} {s} g line a c) =
     ap (λ (x : Answer). x .state) (fed-by c) ∙ ap (λ (x : State). feeding x line .state) (given g) ∙ fed-is h line
 
 closes : {h : History} {s : State} → Given h s → Closes (termsOf h) (acceptedOf h) s
-closes {h} g = rw (given g) (closes-of (termsOf h) (acceptedOf h))
+closes {h} g = rw (given g) (closes-of (termsOf h) (acceptedOf h) (good-of h))
 
 closes-cells : {h : History} {s : State} → Given h s → WritesCells (termsOf h) (acceptedOf h) s
 closes-cells {h} g = rw (given g) (cells-written (termsOf h) (acceptedOf h))
@@ -149,7 +156,7 @@ pub calls-demand3 : CallsDemand3
 calls-demand3 = record {
   takes = λ {h} {s} g {line} {a} c. rw (fed-number c) (closes g .taken line);
   writes = λ {h} {s} g {buffer} {after} {r} c e. written-by (closes g .report) (closed-by c) e;
-  measured = λ {h} {s} g. measured-of (termsOf h) (terms-in-range h) (linesTaken h);
+  measured = λ {h} {s} g. measured-of (termsOf h) (terms-in-range h) (linesTaken h) (good-of h);
   alike = λ {h} {k} {s} {u} g f e p {x} {y} {after-x} {after-y} {r} {q} c d z w.
       let t : SameReports (s .book) (u .book) = rw (given g, same-terms h f e) (same-reports (termsOf h) p) in
       same-by (closing (s .book)) (closing (u .book)) (closed (s .book)) (closed (u .book)) t x y (closed-by c) (closed-by d) z w;
@@ -157,7 +164,7 @@ calls-demand3 = record {
 
 pub calls-loan-table : CallsLoanTable
 calls-loan-table = record {
-  cells = λ {h} {s} g. rw (given g) (cell-is (termsOf h) (linesTaken h));
+  cells = λ {h} {s} g. rw (given g) (cell-is (basisOf (termsOf h) (linesTaken h)) (linesTaken h));
   sums = λ {h} {s} g. cell-sums (termsOf h) (linesTaken h);
   writes = λ {h} {s} g {buffer} {after} {r} c e. written-by (closes-cells g) (cells-by c) e;
   alike = λ {h} {k} {s} {u} g f e p {x} {y} {after-x} {after-y} {r} {q} c d z w.
@@ -185,4 +192,24 @@ calls-own-factors = record {
   rules = λ g. under-sheet g .0;
   keeps = λ g. under-sheet g .1;
   terms = λ {h} {s} g. terms-given g ∙ ap (under (s .book .header)) (under-sheet g .1);
+}
+
+-- the table has the values that the lines taken set
+table-is : {h : History} {s : State} → Given h s → (area month : ℕ) → InTable area month → valuesAt (s .index) area month ≡ valuesIn (linesTaken h) area month
+table-is {h} g area month k = ap (λ (x : State). valuesAt (x .index) area month) (given g) ∙ values-are (linesTaken h) area month k
+
+-- one feeding leaves a value that is set
+stays : (h : History) (line : List ℕ) (area month : ℕ) → 1 ≤ valuesIn (linesTaken h) area month →
+    valuesIn (linesTaken (fed h line)) area month ≡ valuesIn (linesTaken h) area month
+unfolding allFed
+stays h line = adjusted-values .stays h (line ∷ [])
+
+pub calls-adjusted-values : CallsAdjustedValues
+calls-adjusted-values = record {
+  set = λ {h} {s} g area month value k. rw (table-is g area month k) (adjusted-values .values h area month value);
+  unset = λ {h} {s} g area month k. rw (table-is g area month k) (not-set (linesTaken h) area month);
+  stays = λ {h} {s} g {line} {a} c area month k n.
+      let before = table-is g area month k in
+      table-is (by-feeding g line a c) area month k ∙ stays h line area month (rw before at n) ∙ sym before;
+  settled = λ {h} {s} g. adjusted-values .settled h;
 }

@@ -1,4 +1,4 @@
--- Demands 1 to 3 of the calls `open`, `open_sheet`, `feed`, `feed_with`, `close` and `close_cells` themselves, and requests L1 and L3.
+-- Demands 1 to 3 of the calls `open`, `open_sheet`, `feed`, `feed_with`, `close` and `close_cells` themselves, and requests L1, L3 and L4.
 -- Proved in proofs/Demands.antt.
 use mathlib.Core.Path.{_≡_}
 use mathlib.Core.List.{List, [], _∷_, _++_, List·Memᴰ, List·Permᴰ}
@@ -7,6 +7,9 @@ use Prim.Native.Nat.{ℕ, _≤_}
 use lib.ListN.{length, take}
 use Rattle.loan_charge.specs.CreditFactor.{builtInSheet, ratesOf}
 use Rattle.sheet.specs.Sheet.{SheetRules}
+use Rattle.line_forms.specs.declared.Loan.{Loan}
+use Rattle.line_forms.specs.declared.Content.the-variants.{Loan as loan, Index as index}
+use Rattle.line_forms.specs.Claims.{ShowsInRange}
 use Rattle.report.specs.Line.{onto}
 use Rattle.cell_report.specs.CellReport.{cellAt}
 use Rattle.book_model.specs.declared.Book.{Book}
@@ -14,9 +17,10 @@ use Rattle.book_model.specs.declared.Closed.{Closed}
 use Rattle.book_model.specs.Accepted.{accept}
 use Rattle.book_model.specs.Calls.{State, Answer, Sound}
 use Rattle.book_model.specs.Demand1.{refusedState}
-use Rattle.book_model.specs.Demand2.{OpeningAnswer, FeedingAnswer, ClosingAnswer}
+use Rattle.book_model.specs.Demand2.{OpeningAnswer, FeedingAnswer, ClosingAnswer, IsSet, Indexed}
 use Rattle.book_model.specs.Demand3.{reportFor, Measured}
 use Rattle.book_model.specs.History.{History, sheetOf, termsOf, acceptedOf, linesTaken}
+use Rattle.book_model.specs.HouseIndex.{InTable, valuesAt}
 use Rattle.book_model.specs.LoanTable.{cellFor, cellsFor, CellSums}
 use Rattle.book_model.specs.Terms.{underSheet}
 use Rattle.histories.specs.Given.{OpenCall, OpenSheetCall, OpeningCall, FeedingCall, CloseCall, CellsCall, Given}
@@ -25,7 +29,7 @@ use Rattle.histories.specs.Given.{OpenCall, OpenSheetCall, OpeningCall, 
 pub record CallsDemand1 : Type 0 where
   -- The answer is 0, or the number of a refusal that document 01, or a request of 02, names for the call.
   pub opening-numbers : {sheet line : List ℕ} {a : Answer} → OpeningCall sheet line a → List·Memᴰ (a .refusal) (0 ∷ 1 ∷ 2 ∷ 7 ∷ 3 ∷ 4 ∷ 10 ∷ [])
-  pub feeding-numbers : {s : State} {line : List ℕ} {a : Answer} → FeedingCall s line a → List·Memᴰ (a .refusal) (0 ∷ 1 ∷ 2 ∷ 7 ∷ 3 ∷ 5 ∷ 8 ∷ [])
+  pub feeding-numbers : {s : State} {line : List ℕ} {a : Answer} → FeedingCall s line a → List·Memᴰ (a .refusal) (0 ∷ 1 ∷ 2 ∷ 7 ∷ 3 ∷ 5 ∷ 12 ∷ 8 ∷ 11 ∷ [])
   pub closing-numbers : {b : Book} {buffer after : List ℕ} {r : Closed} → CloseCall b buffer r after → List·Memᴰ (r .refusal) (0 ∷ 6 ∷ 9 ∷ [])
   pub cells-numbers : {b : Book} {cells buffer after : List ℕ} {r : Closed} → CellsCall b cells buffer r after → List·Memᴰ (r .refusal) (0 ∷ 6 ∷ 9 ∷ [])
   -- Refused, an opening gives the value of an all-zero header under the regulator's table, a feeding the same state, every place of its
@@ -86,3 +90,18 @@ pub record CallsOwnFactors : Type 0 where
   pub keeps : {h : History} {s : State} → Given h s → s .rates ≡ ratesOf (sheetOf h)
   -- with that sheet demands 2 and 3 speak of it.
   pub terms : {h : History} {s : State} → Given h s → termsOf h ≡ underSheet (s .book .header) (sheetOf h)
+
+-- 02, L4, of every state that the calls gave.
+pub record CallsAdjustedValues : Type 0 where
+  -- The table lent holds the value of the line taken that sets it, and 0 where none does;
+  pub set : {h : History} {s : State} → Given h s → (area month value : ℕ) → InTable area month → 1 ≤ value →
+      (valuesAt (s .index) area month ≡ value) ↔
+      ((line : List ℕ) × List·Memᴰ line (linesTaken h) × ShowsInRange line (index (record { area = area; month = month; value = value })))
+  pub unset : {h : History} {s : State} → Given h s → (area month : ℕ) → InTable area month →
+      (valuesAt (s .index) area month ≡ 0) ↔ (IsSet (linesTaken h) area month → ⊥)
+  -- a value once set stays, whatever is fed.
+  pub stays : {h : History} {s : State} → Given h s → {line : List ℕ} {a : Answer} → FeedingCall s line a → (area month : ℕ) → InTable area month →
+      1 ≤ valuesAt (s .index) area month → valuesAt (a .state .index) area month ≡ valuesAt (s .index) area month
+  -- Every loan taken from 200501 to 201511 has both its values.
+  pub settled : {h : History} {s : State} → Given h s → (line : List ℕ) (l : Loan) → List·Memᴰ line (linesTaken h) → ShowsInRange line (loan l) → Indexed l →
+      IsSet (linesTaken h) (l .area) (l .from) × IsSet (linesTaken h) (l .area) 201512

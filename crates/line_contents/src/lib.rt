@@ -3,7 +3,10 @@ ghost use mathlib.Core.Bool.{true, false};
 ghost use mathlib.Core.Path.{_≡_};
 ghost use Rattle.exact.specs.Text.{text};
 ghost use Rattle.line_forms.specs.Bytes.{standsAt};
-ghost use Rattle.line_forms.specs.Readings.{classAt, kindAt, headerHeld, loanHeld, policyHeld, derivativeHeld, assetHeld, plainHeld, signedHeld, contentOf};
+ghost use Rattle.line_forms.specs.Contents.{originForm};
+ghost use Rattle.line_forms.specs.Parsing.{valuesAt, afterForm};
+ghost use Rattle.line_forms.specs.Readings.{classAt, kindAt, headerHeld, loanHeld, policyHeld, derivativeHeld, assetHeld, plainHeld, signedHeld, indexHeld};
+ghost use Rattle.line_forms.specs.Readings.{contentOf};
 use fixed_point::Signed;
 use line_forms::Amount;
 use line_forms::Asset;
@@ -11,10 +14,20 @@ use line_forms::Class;
 use line_forms::Content;
 use line_forms::Derivative;
 use line_forms::Header;
+use line_forms::IndexValue;
 use line_forms::Item;
 use line_forms::Kind;
 use line_forms::Loan;
 use line_forms::Policy;
+
+mod areas;
+
+// The month and the area that end a loan, and the position after them.
+struct Origin {
+    from: u64,
+    area: u64,
+    next: usize,
+}
 
 fn header(line: &[u8]) -> Content
     ensures { λ r. ⌜ r ≡ headerHeld (now (line .entry)) ⌝ }
@@ -32,6 +45,20 @@ fn header(line: &[u8]) -> Content
         });
     }
     Content::NoForm
+}
+
+// Each text is read apart from the field after it: the compiler then knows its length.
+fn origin_at(line: &[u8], at: usize) -> Origin
+    ensures { λ r.
+        ⌜ ((r .from, (r .area, tt)) ≡ valuesAt originForm (now (line .entry)) at) × (r .next ≡ afterForm originForm (now (line .entry)) at) ⌝ }
+{
+    let from = line_fields::six_at(line, line_fields::skip(line, at, b") (from "));
+    let area = areas::area_at(line, line_fields::skip(line, from.next, b") (area "));
+    Origin {
+        from: from.value,
+        area: area.value,
+        next: line_fields::skip(line, area.next, b"))"),
+    }
 }
 
 // A line that begins as a loan. Each text that does not stand ends the reading, so that the next field is begun before the text is compared.
@@ -60,7 +87,8 @@ fn loan(line: &[u8]) -> Content
         return Content::NoForm;
     }
     let supplement = line_fields::short_at(line, score.next + 7);
-    if line_fields::skip(line, supplement.next, b"))") == line.len() {
+    let origin = origin_at(line, supplement.next);
+    if origin.next == line.len() {
         let q = score.score;
         return Content::Loan(Loan {
             balance: balance.value,
@@ -69,6 +97,8 @@ fn loan(line: &[u8]) -> Content
             term: term.value,
             score: q,
             supplement: supplement.value,
+            from: origin.from,
+            area: origin.area,
         });
     }
     Content::NoForm
@@ -185,6 +215,22 @@ fn signed(line: &[u8], item: Item, text: &[u8]) -> Content
     Content::NoForm
 }
 
+fn index(line: &[u8]) -> Content
+    ensures { λ r. ⌜ r ≡ indexHeld (now (line .entry)) ⌝ }
+{
+    let area = areas::area_at(line, line_fields::skip(line, 0, b"(index "));
+    let month = line_fields::number_after(line, area.next, b" ");
+    let value = line_fields::number_after(line, month.next, b" ");
+    if line_fields::skip(line, value.next, b")") == line.len() {
+        return Content::Index(IndexValue {
+            area: area.value,
+            month: month.value,
+            value: value.value,
+        });
+    }
+    Content::NoForm
+}
+
 // What a line that does not begin as a loan holds, by the name after its opening bracket.
 fn other(line: &[u8]) -> Content
     requires { ⌜ standsAt (now line) 0 (text "(loan (bal ") ≡ false ⌝ }
@@ -193,7 +239,7 @@ fn other(line: &[u8]) -> Content
     let name = line_fields::word_at(
         line,
         1,
-        b"loan|policy|deriv|asset|book|claims|lossc|stated|equity|aoci|b|c",
+        b"loan|policy|deriv|asset|book|claims|lossc|stated|equity|aoci|b|c|index",
     );
     let place = name.value;
     match place {
@@ -209,6 +255,7 @@ fn other(line: &[u8]) -> Content
         9 => signed(line, Item::Aoci, b"(aoci "),
         10 => plain(line, Item::B, b"(b "),
         11 => plain(line, Item::C, b"(c "),
+        12 => index(line),
         _ => Content::NoForm,
     }
 }

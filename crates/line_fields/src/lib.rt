@@ -178,6 +178,27 @@ fn many_digits(line: &[u8], at: usize) -> &[u8]
     run(line, at, b'0', b'9')
 }
 
+// The field reader where six digits are likely: they are tested at once.
+fn six_digits(line: &[u8], at: usize) -> &[u8]
+    ensures { λ r. ⌜ now r ≡ digitsAt (now (line .entry)) at ⌝ }
+{
+    let size = line.len();
+    if size <= at {
+        return run(line, at, b'0', b'9');
+    }
+    if size - at <= 6 {
+        return run(line, at, b'0', b'9');
+    }
+    let six = at + 6;
+    if !all_digits(&line[at..six]) {
+        return run(line, at, b'0', b'9');
+    }
+    if !digit(line[six]) {
+        return &line[at..six];
+    }
+    run(line, at, b'0', b'9')
+}
+
 fn digit_at(digits: &[u8], i: usize) -> u64
     requires { ⌜ (allWithin 48 57 (now digits) ≡ true) × (i < length (now digits)) ⌝ }
     ensures { λ r. ⌜ (r ≡ getD (now (digits .entry)) i 0 - 48) × (r ≤ 9) ⌝ }
@@ -276,6 +297,13 @@ pub fn long_at(line: &[u8], at: usize) -> Found
     ensures { λ r. ⌜ (r .value ≡ numberAt (now (line .entry)) at) × (r .next ≡ afterNumber (now (line .entry)) at) ⌝ }
 {
     number(line, at, many_digits(line, at))
+}
+
+// The same, soonest where six digits stand.
+pub fn six_at(line: &[u8], at: usize) -> Found
+    ensures { λ r. ⌜ (r .value ≡ numberAt (now (line .entry)) at) × (r .next ≡ afterNumber (now (line .entry)) at) ⌝ }
+{
+    number(line, at, six_digits(line, at))
 }
 
 // A D after a text.

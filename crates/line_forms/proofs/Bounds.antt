@@ -1,5 +1,5 @@
 -- What the ranges say of the numbers of an accepted line or header, as facts.
-use Prim.Native.Nat.{ℕ, _≤_}
+use Prim.Native.Nat.{ℕ, _≤_, _<_, _%_}
 use mathlib.Core.Path.{_≡_}
 use mathlib.Core.Bool.{true, _&&_}
 use mathlib.Core.List.{List}
@@ -8,7 +8,7 @@ use Rattle.loan_charge.specs.declared.Score.{Score}
 use Rattle.loan_charge.specs.declared.Score.the-variants.{Scored, Unscored}
 use Rattle.line_forms.specs.Bytes.{within}
 use Rattle.line_forms.specs.Contents.{headerInRange, scoreInRange, loanInRange, policyInRange, moneyInRange, derivativeInRange, assetInRange}
-use Rattle.line_forms.specs.Contents.{amountInRange, inRange, SignFits}
+use Rattle.line_forms.specs.Contents.{amountInRange, monthInRange, indexInRange, inRange, SignFits}
 use Rattle.line_forms.specs.Readings.{lineOf, headerOf}
 use Rattle.fixed_point.specs.declared.Signed.{Signed}
 use Rattle.line_forms.specs.declared.Header.{Header}
@@ -17,9 +17,10 @@ use Rattle.line_forms.specs.declared.Policy.{Policy}
 use Rattle.line_forms.specs.declared.Derivative.{Derivative}
 use Rattle.line_forms.specs.declared.Asset.{Asset}
 use Rattle.line_forms.specs.declared.Amount.{Amount}
-use Rattle.line_forms.specs.declared.Content.the-variants.{Loan as loan, Policy as policy, Derivative as derivative, Asset as asset, Amount as amount}
+use Rattle.line_forms.specs.declared.IndexValue.{IndexValue}
+use Rattle.line_forms.specs.declared.Content.the-variants.{Loan as loan, Policy as policy, Derivative as derivative, Asset as asset, Amount as amount, Index as index}
 use Rattle.line_forms.specs.declared.Line.the-variants.{Loan as LoanLine, Policy as PolicyLine, Derivative as DerivativeLine}
-use Rattle.line_forms.specs.declared.Line.the-variants.{Asset as AssetLine, Amount as AmountLine}
+use Rattle.line_forms.specs.declared.Line.the-variants.{Asset as AssetLine, Amount as AmountLine, Index as IndexLine}
 use Rattle.line_forms.specs.declared.HeaderLine.the-variants.{Header as HeaderRead}
 use Rattle.line_forms.proofs.Bytes.{and-both, within-bounds}
 use Rattle.line_forms.proofs.LineLaws.{line-accepted}
@@ -60,6 +61,17 @@ score-bounds (Scored n age) h =
     (between 300 900 n (k .0), between 0 600 age (k .1))
 score-bounds Unscored h = tt
 
+-- a month between two others
+pub record MonthBounds (low high n : ℕ) : Type 0 where
+  pub whole : Between low high n
+  pub month : Between 1 12 (n % 100)
+
+month-bounds : (low high n : ℕ) → monthInRange low high n ≡ true → MonthBounds low high n
+unfolding monthInRange
+month-bounds low high n h =
+    let k = and-both (within low high n) (within 1 12 (n % 100)) h in
+    record { whole = between low high n (k .0); month = between 1 12 (n % 100) (k .1) }
+
 pub record LoanBounds (l : Loan) : Type 0 where
   pub balance : Between 1 200000000 (l .balance)
   pub value : Between 1 10000000000 (l .value)
@@ -67,17 +79,21 @@ pub record LoanBounds (l : Loan) : Type 0 where
   pub term : Between 1 480 (l .term)
   pub score : ScoreBounds (l .score)
   pub supplement : Between 0 1 (l .supplement)
+  pub from : MonthBounds 190001 209912 (l .from)
+  pub area : l .area < 12
 
 pub loan-bounds : (s : List ℕ) (l : Loan) → lineOf s ≡ LoanLine l → LoanBounds l
 unfolding inRange loanInRange
 loan-bounds s l e =
-    let k = line-accepted s (loan l) tt .0 e .1 in
+    let r = line-accepted s (loan l) tt .0 e in
     let a1 = within 1 200000000 (l .balance) in
     let a2 = within 1 10000000000 (l .value) in
     let a3 = within 1 480 (l .amortization) in
     let a4 = within 1 480 (l .term) in
     let a5 = scoreInRange (l .score) in
-    let f = and-both (a1 && a2 && a3 && a4 && a5) (within 0 1 (l .supplement)) k in
+    let a6 = within 0 1 (l .supplement) in
+    let m = and-both (a1 && a2 && a3 && a4 && a5 && a6) (monthInRange 190001 209912 (l .from)) (r .1) in
+    let f = and-both (a1 && a2 && a3 && a4 && a5) a6 (m .0) in
     let g = and-both (a1 && a2 && a3 && a4) a5 (f .0) in
     let h = and-both (a1 && a2 && a3) a4 (g .0) in
     let i = and-both (a1 && a2) a3 (h .0) in
@@ -89,6 +105,8 @@ loan-bounds s l e =
       term = between 1 480 (l .term) (h .1);
       score = score-bounds (l .score) (g .1);
       supplement = between 0 1 (l .supplement) (f .1);
+      from = month-bounds 190001 209912 (l .from) (m .1);
+      area = r .0 .1 .1 .1 .1 .1 .1 .1 .0;
     }
 
 pub record PolicyBounds (p : Policy) : Type 0 where
@@ -180,4 +198,20 @@ amount-bounds s a e =
       plus = between 0 100000000000 (a .amount .plus) (f .0);
       minus = between 0 100000000000 (a .amount .minus) (f .1);
       sign = k .0 .1;
+    }
+
+pub record IndexBounds (i : IndexValue) : Type 0 where
+  pub area : i .area < 12
+  pub month : MonthBounds 200501 201512 (i .month)
+  pub value : Between 1 1000000 (i .value)
+
+pub index-bounds : (s : List ℕ) (i : IndexValue) → lineOf s ≡ IndexLine i → IndexBounds i
+unfolding inRange indexInRange
+index-bounds s i e =
+    let r = line-accepted s (index i) tt .0 e in
+    let f = and-both (monthInRange 200501 201512 (i .month)) (within 1 1000000 (i .value)) (r .1) in
+    record {
+      area = r .0 .0;
+      month = month-bounds 200501 201512 (i .month) (f .0);
+      value = between 1 1000000 (i .value) (f .1);
     }

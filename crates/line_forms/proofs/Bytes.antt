@@ -222,9 +222,12 @@ pub record Part (low high : ℕ) : Type 0 where
   pub order : at ≤ end
   pub all : allWithin low high (take (end - at) (drop at line)) ≡ true
 
--- no byte, one byte more, and the part as the run
+-- no byte, n bytes tested at once, one byte more, and the part as the run
 abbrev pub no-part : (low high : ℕ) → List ℕ → ℕ → Part low high
 no-part low high s at = record { line = s; at = at; end = at; order = omega arith; all = part-empty low high s at }
+
+abbrev pub tested-part : (low high : ℕ) (s : List ℕ) (at n : ℕ) → allWithin low high (take (at + n - at) (drop at s)) ≡ true → Part low high
+tested-part low high s at n h = record { line = s; at = at; end = at + n; order = omega arith; all = h }
 
 abbrev pub more-part :
     {low high : ℕ} (p : Part low high) (next : ℕ) → next ≡ p .end + 1 → p .end < length (p .line) →

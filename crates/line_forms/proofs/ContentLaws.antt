@@ -15,10 +15,10 @@ use Rattle.line_forms.specs.Forms.{Form, Values, AllWritable, formText}
 use Rattle.line_forms.specs.Parsing.{valuesAt, hasForm, lettersAt, placeOf}
 use Rattle.line_forms.specs.Contents.{headerForm, headerValues, loanForm, loanValues, policyForm, policyValues, classPlace, derivativeForm}
 use Rattle.line_forms.specs.Contents.{derivativeValues, kindPlace, assetForm, assetValues, plainForm, signedForm, amountForm, amountValues}
-use Rattle.line_forms.specs.Contents.{bytesOf, SignFits, Writable}
+use Rattle.line_forms.specs.Contents.{indexForm, indexValues, bytesOf, SignFits, Writable}
 use Rattle.line_forms.specs.Readings.{headerWith, loanWith, policyWith, classAt, derivativeWith, kindAt, assetWith, unsigned, headerHeld}
 use Rattle.line_forms.specs.Readings.{loanHeld, policyHeld, derivativeHeld, assetHeld, plainHeld, signedHeld, names, amountHeld, heldAs}
-use Rattle.line_forms.specs.Readings.{contentOf}
+use Rattle.line_forms.specs.Readings.{indexWith, indexHeld, contentOf}
 use Rattle.fixed_point.specs.declared.Signed.{Signed}
 use Rattle.line_forms.specs.declared.Header.{Header}
 use Rattle.line_forms.specs.declared.Loan.{Loan}
@@ -31,9 +31,10 @@ use Rattle.line_forms.specs.declared.Derivative.{Derivative}
 use Rattle.line_forms.specs.declared.Asset.{Asset}
 use Rattle.line_forms.specs.declared.Item.{Item}
 use Rattle.line_forms.specs.declared.Item.the-variants.{Claims, Lossc, Stated, Equity as EquityItem, Aoci, B, C}
+use Rattle.line_forms.specs.declared.IndexValue.{IndexValue}
 use Rattle.line_forms.specs.declared.Content.{Content}
 use Rattle.line_forms.specs.declared.Content.the-variants.{Header as header, Loan as loan, Policy as policy, Derivative as derivative}
-use Rattle.line_forms.specs.declared.Content.the-variants.{Asset as asset, Amount as amount, NoForm}
+use Rattle.line_forms.specs.declared.Content.the-variants.{Asset as asset, Amount as amount, Index as index, NoForm}
 use Rattle.line_forms.proofs.Bytes.{run-exact, Stands, text-cases, stands-fits, after-true}
 use Rattle.line_forms.proofs.FieldLaws.{among, spelled}
 use Rattle.line_forms.proofs.FormLaws.{stops, proper, form-of, form-has, form-stops}
@@ -77,7 +78,7 @@ unfolding stops spelled among same allWithin
 proper-header = refl
 
 pub proper-loan : proper loanForm ≡ true
-unfolding stops
+unfolding stops spelled among same allWithin
 proper-loan = refl
 
 proper-policy : proper policyForm ≡ true
@@ -91,6 +92,10 @@ proper-derivative = refl
 proper-asset : proper assetForm ≡ true
 unfolding stops
 proper-asset = refl
+
+proper-index : proper indexForm ≡ true
+unfolding stops spelled among same allWithin
+proper-index = refl
 
 proper-plain : (t : List ℕ) → proper (plainForm t) ≡ true
 unfolding stops
@@ -140,6 +145,11 @@ unfolding assetHeld bytesOf
 asset-right s =
     held-right assetForm s (λ v. asset (assetWith v)) NoForm proper-asset (λ v k. inr (k .1, k .0)) (inl refl)
 
+index-right : (s : List ℕ) → Right s (indexHeld s)
+unfolding indexHeld bytesOf
+index-right s =
+    held-right indexForm s (λ v. index (indexWith v)) NoForm proper-index (λ v k. inr (k .1, k .0)) (inl refl)
+
 plain-right :
     (i : Item) (t s : List ℕ) →
     ((n : ℕ) → (s ≡ formText (plainForm t) (n, tt)) × AllWritable (plainForm t) (n, tt) → Right s (amount (record { item = i; amount = unsigned n }))) →
@@ -182,7 +192,8 @@ held-as-right name s =
     (either-right s (eqb name 1) _ _ (policy-right s)
     (either-right s (eqb name 2) _ _ (derivative-right s)
     (either-right s (eqb name 3) _ _ (asset-right s)
-    (either-right s (eqb name 4) _ _ (header-right s) (amount-right name s)))))
+    (either-right s (eqb name 4) _ _ (header-right s)
+    (either-right s (eqb name 12) _ _ (index-right s) (amount-right name s))))))
 
 pub content-right : (s : List ℕ) → Right s (contentOf s)
 unfolding contentOf
@@ -272,6 +283,12 @@ asset-written s a w e =
     named s (text "asset") _ 3 (asset a) refl refl e
     (held assetForm s (λ v. asset (assetWith v)) NoForm (assetValues a) proper-asset e w)
 
+index-written : (s : List ℕ) (i : IndexValue) → Writable (index i) → s ≡ bytesOf (index i) → contentOf s ≡ index i
+unfolding bytesOf indexHeld placeOf same allWithin
+index-written s i w e =
+    named s (text "index") _ 12 (index i) refl refl e
+    (held indexForm s (λ v. index (indexWith v)) NoForm (indexValues i) proper-index e w)
+
 plain-written :
     (i : Item) (t s : List ℕ) (n : ℕ) → n < limit → s ≡ formText (plainForm t) (n, tt) →
     plainHeld i t s ≡ amount (record { item = i; amount = unsigned n })
@@ -318,4 +335,5 @@ content-written s (policy p) w e = policy-written s p w e
 content-written s (derivative d) w e = derivative-written s d w e
 content-written s (asset a) w e = asset-written s a w e
 content-written s (amount a) w e = amount-written s (a .item) (a .amount) (w .0) (w .1) e
+content-written s (index i) w e = index-written s i w e
 content-written s NoForm w e = absurd w

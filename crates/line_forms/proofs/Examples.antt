@@ -10,8 +10,9 @@ use Rattle.line_forms.specs.Bytes.{allWithin, runOf, same, after}
 use Rattle.line_forms.specs.Numerals.{isNumeral}
 use Rattle.line_forms.specs.Parsing.{numberAt, afterNumber, afterNegative, signedAt, afterSigned, placeOf, afterWord, scoreAt, afterScore}
 use Rattle.line_forms.specs.Contents.{inRange, headerInRange, scoreInRange, loanInRange, policyInRange, moneyInRange}
-use Rattle.line_forms.specs.Contents.{derivativeInRange, assetInRange, amountInRange}
-use Rattle.line_forms.specs.Readings.{contentOf, headerHeld, loanHeld, policyHeld, derivativeHeld, assetHeld, plainHeld, signedHeld, amountHeld}
+use Rattle.line_forms.specs.Contents.{derivativeInRange, assetInRange, amountInRange, monthInRange, indexInRange}
+use Rattle.line_forms.specs.Readings.{contentOf, headerHeld, loanHeld, policyHeld, derivativeHeld, assetHeld, indexHeld}
+use Rattle.line_forms.specs.Readings.{plainHeld, signedHeld, amountHeld}
 use Rattle.line_forms.specs.Claims.{ShowsInRange}
 use Rattle.line_forms.specs.Examples.{LineTexts}
 use Rattle.line_forms.specs.declared.Content.{Content}
@@ -27,10 +28,10 @@ shows {s} {c} e r = go (content-right s)
     go (inr w) = record { shows = record { writable = rw e at (w .0); bytes = rw e at (w .1) }; in-range = r }
 
 pub line-texts : LineTexts
-unfolding contentOf headerHeld loanHeld policyHeld derivativeHeld assetHeld plainHeld signedHeld amountHeld
+unfolding contentOf headerHeld loanHeld policyHeld derivativeHeld assetHeld indexHeld plainHeld signedHeld amountHeld
     numberAt afterNumber afterNegative signedAt afterSigned placeOf afterWord scoreAt afterScore
     allWithin runOf same after isNumeral valueFrom inRange
-    headerInRange scoreInRange loanInRange policyInRange moneyInRange derivativeInRange assetInRange amountInRange
+    headerInRange scoreInRange loanInRange policyInRange moneyInRange derivativeInRange assetInRange amountInRange monthInRange indexInRange
 line-texts = record {
   fresh = shows refl refl;
   aged = shows refl refl;
@@ -54,4 +55,16 @@ line-texts = record {
   aoci-zero = shows refl refl;
   b = shows refl refl;
   c = shows refl refl;
+  calgary = shows refl refl;
+  edmonton = shows refl refl;
+  halifax = shows refl refl;
+  hamilton = shows refl refl;
+  montreal = shows refl refl;
+  ottawagatineau = shows refl refl;
+  quebec = shows refl refl;
+  toronto = shows refl refl;
+  vancouver = shows refl refl;
+  victoria = shows refl refl;
+  winnipeg = shows refl refl;
+  composite = shows refl refl;
 }

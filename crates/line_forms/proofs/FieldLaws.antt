@@ -61,7 +61,7 @@ not-among w (x ∷ choices) zero h l = or-false (same x w) (among w choices) h .
 not-among w (x ∷ choices) (suc i) h l = not-among w choices i (or-false (same x w) (among w choices) h .1) (omega arith)
 
 -- a word's place, and the word at a place
-place-of : (choices : List (List ℕ)) (i : ℕ) → spelled choices ≡ true → i < length choices → placeOf (getD choices i []) choices ≡ i
+pub place-of : (choices : List (List ℕ)) (i : ℕ) → spelled choices ≡ true → i < length choices → placeOf (getD choices i []) choices ≡ i
 unfolding placeOf
 place-of [] i h l = absurd (omega arith)
 place-of (w ∷ choices) zero h l = rw (same-refl w)

@@ -19,6 +19,10 @@ pub record Reading (s : List ℕ) (f : Form) (at : ℕ) : Type 0 where
   pub values : found ≡ valuesAt f s at
   pub ends : next ≡ afterForm f s at
 
+-- what another reader found of it
+abbrev pub taken : {s : List ℕ} {f : Form} {at : ℕ} {v : Values f} {p : ℕ} → (v ≡ valuesAt f s at) × (p ≡ afterForm f s at) → Reading s f at
+taken {s} {f} {at} {v} {p} e = record { found = v; next = p; values = e .0; ends = e .1 }
+
 -- the last text
 abbrev pub last : {s t : List ℕ} {at p : ℕ} → p ≡ after s at t → Reading s (end t) at
 last {s} {t} {at} {p} e = record { found = tt; next = p; values = refl; ends = e }
@@ -33,6 +37,12 @@ step {s} {t} {k} {f} {at} {v} {q} e r = record {
   values = rw (e .0, r .values, e .1);
   ends = rw (r .ends, e .1);
 }
+
+-- the same where the reader of the text and that of the field are two
+abbrev pub skipped :
+    {s t : List ℕ} {k : Field} {f : Form} {at p : ℕ} {v : Value k} {q : ℕ} →
+    p ≡ after s at t → (v ≡ fieldAt k s p) × (q ≡ afterField k s p) → Reading s f q → Reading s (field t k f) at
+skipped {v = v} e h r = step {v = v} (rw (← e) h) r
 
 -- A line holds what was found of a form where the reading ended with the line, and else nothing.
 pub holds :

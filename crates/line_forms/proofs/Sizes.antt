@@ -1,4 +1,4 @@
--- No form is longer than 152 bytes.
+-- No form is longer than 196 bytes.
 use Prim.Native.Nat.{ℕ, zero, suc, _+_, _≤_, max}
 use native.Mathlib.Nat.{le-trans}
 use native.Mathlib.Omega.{arith}
@@ -13,13 +13,13 @@ use Rattle.line_forms.specs.Numerals.{decimal, signedText}
 use Rattle.line_forms.specs.Forms.{Field, number, signed, word, score, Form, field, end, Value, Values, FieldWritable, AllWritable, fieldText}
 use Rattle.line_forms.specs.Forms.{formText, scoreText, ScoreWritable}
 use Rattle.line_forms.specs.Contents.{headerForm, headerValues, loanForm, loanValues, policyForm, policyValues, derivativeForm}
-use Rattle.line_forms.specs.Contents.{derivativeValues, assetForm, assetValues, amountForm, amountValues, bytesOf, Writable}
+use Rattle.line_forms.specs.Contents.{derivativeValues, assetForm, assetValues, amountForm, amountValues, indexForm, indexValues, bytesOf, Writable}
 use Rattle.fixed_point.specs.declared.Signed.{Signed}
 use Rattle.line_forms.specs.declared.Item.{Item}
 use Rattle.line_forms.specs.declared.Item.the-variants.{Claims, Lossc, Stated, Equity, Aoci, B, C}
 use Rattle.line_forms.specs.declared.Content.{Content}
 use Rattle.line_forms.specs.declared.Content.the-variants.{Header as header, Loan as loan, Policy as policy, Derivative as derivative}
-use Rattle.line_forms.specs.declared.Content.the-variants.{Asset as asset, Amount as amount, NoForm}
+use Rattle.line_forms.specs.declared.Content.the-variants.{Asset as asset, Amount as amount, Index as index, NoForm}
 use Rattle.line_forms.proofs.Numerals.{decimal-short}
 
 abbrev longest : List (List ℕ) → ℕ
@@ -72,7 +72,7 @@ form-size (field t k f) v w =
     )
 form-size (end t) v w = omega arith
 
-amount-bound : (i : Item) → formSize (amountForm i) ≤ 152
+amount-bound : (i : Item) → formSize (amountForm i) ≤ 196
 amount-bound Claims = lit≤ tt
 amount-bound Lossc = lit≤ tt
 amount-bound Stated = lit≤ tt
@@ -81,7 +81,7 @@ amount-bound Aoci = lit≤ tt
 amount-bound B = lit≤ tt
 amount-bound C = lit≤ tt
 
-pub content-size : (c : Content) → Writable c → length (bytesOf c) ≤ 152
+pub content-size : (c : Content) → Writable c → length (bytesOf c) ≤ 196
 unfolding bytesOf
 content-size (header h) w = le-trans (form-size headerForm (headerValues h) w) (lit≤ tt)
 content-size (loan l) w = le-trans (form-size loanForm (loanValues l) w) (lit≤ tt)
@@ -89,4 +89,5 @@ content-size (policy p) w = le-trans (form-size policyForm (policyValues p) w) (
 content-size (derivative d) w = le-trans (form-size derivativeForm (derivativeValues d) w) (lit≤ tt)
 content-size (asset a) w = le-trans (form-size assetForm (assetValues a) w) (lit≤ tt)
 content-size (amount a) w = le-trans (form-size (amountForm (a .item)) (amountValues (a .item) (a .amount)) (w .0)) (amount-bound (a .item))
+content-size (index i) w = le-trans (form-size indexForm (indexValues i) w) (lit≤ tt)
 content-size NoForm w = absurd w

@@ -10,10 +10,10 @@ use Rattle.line_forms.specs.Readings.{longestLine, headerOf, contentOf}
 use Rattle.line_forms.specs.declared.Header.{Header}
 use Rattle.line_forms.specs.declared.Content.{Content}
 use Rattle.line_forms.specs.declared.Content.the-variants.{Header as header, Loan as loan, Policy as policy, Derivative as derivative}
-use Rattle.line_forms.specs.declared.Content.the-variants.{Asset as asset, Amount as amount, NoForm}
+use Rattle.line_forms.specs.declared.Content.the-variants.{Asset as asset, Amount as amount, Index as index, NoForm}
 use Rattle.line_forms.specs.declared.Line.{Line}
 use Rattle.line_forms.specs.declared.Line.the-variants.{Loan as LoanLine, Policy as PolicyLine, Derivative as DerivativeLine}
-use Rattle.line_forms.specs.declared.Line.the-variants.{Asset as AssetLine, Amount as AmountLine, Refusal}
+use Rattle.line_forms.specs.declared.Line.the-variants.{Asset as AssetLine, Amount as AmountLine, Index as IndexLine, Refusal}
 use Rattle.line_forms.specs.declared.HeaderLine.{HeaderLine}
 use Rattle.line_forms.specs.declared.HeaderLine.the-variants.{Header as HeaderRead, Refusal as HeaderRefusal}
 
@@ -35,6 +35,7 @@ AfterHeader (policy p) = Unit {0}
 AfterHeader (derivative d) = Unit {0}
 AfterHeader (asset a) = Unit {0}
 AfterHeader (amount a) = Unit {0}
+AfterHeader (index i) = Unit {0}
 AfterHeader NoForm = ⊥
 
 -- line reading's answer that holds such data
@@ -45,6 +46,7 @@ lineWith (policy p) = PolicyLine p
 lineWith (derivative d) = DerivativeLine d
 lineWith (asset a) = AssetLine a
 lineWith (amount a) = AmountLine a
+lineWith (index i) = IndexLine i
 lineWith NoForm = Refusal 2
 
 -- 01: "If an answer is an enum, a definition gives this paper's number and values for each of its cases. The promises use this definition."
@@ -55,6 +57,7 @@ lineRefusal (PolicyLine p) = 0
 lineRefusal (DerivativeLine d) = 0
 lineRefusal (AssetLine a) = 0
 lineRefusal (AmountLine a) = 0
+lineRefusal (IndexLine i) = 0
 lineRefusal (Refusal n) = n
 
 abbrev pub headerRefusal : HeaderLine → ℕ
@@ -68,6 +71,7 @@ lineContent (PolicyLine p) = policy p
 lineContent (DerivativeLine d) = derivative d
 lineContent (AssetLine a) = asset a
 lineContent (AmountLine a) = amount a
+lineContent (IndexLine i) = index i
 lineContent (Refusal n) = NoForm
 
 abbrev pub headerContent : HeaderLine → Content
@@ -104,8 +108,8 @@ pub record HeaderReading (s : List ℕ) (r : HeaderLine) : Type 0 where
       ((h : Header) × (headerContent r ≡ header h) × (headerRefusal r ≡ 0)) ⊎
       (headerRefusal r ≡ 1) ⊎ (headerRefusal r ≡ 2) ⊎ (headerRefusal r ≡ 7) ⊎ (headerRefusal r ≡ 3) ⊎ (headerRefusal r ≡ 4)
 
--- No form is longer than 152 bytes, so refusal 1 meets none; its bytes give the data back; and a header in its ranges can be written.
+-- No form is longer than 196 bytes, so refusal 1 meets none; its bytes give the data back; and a header in its ranges can be written.
 pub record BytesRead : Type 0 where
-  pub short : (c : Content) → Writable c → length (bytesOf c) ≤ 152
+  pub short : (c : Content) → Writable c → length (bytesOf c) ≤ 196
   pub back : (c : Content) → Writable c → contentOf (bytesOf c) ≡ c
   pub header-back : (h : Header) → inRange (header h) ≡ true → h .unscored ≤ h .loans → headerOf (bytesOf (header h)) ≡ HeaderRead h

@@ -1,5 +1,5 @@
--- 01, "A book, line by line": each form as it is shown there, its data, and its ranges with both ends.
-use Prim.Native.Nat.{ℕ}
+-- 01, "A book, line by line", and 02, L4: each form as it is shown there, its data, and its ranges with both ends.
+use Prim.Native.Nat.{ℕ, _%_}
 use mathlib.Core.Bool.{Bool, true, false, _&&_}
 use mathlib.Core.List.{List, []}
 use mathlib.Core.Path.{_≡_}
@@ -22,9 +22,10 @@ use Rattle.line_forms.specs.declared.Asset.{Asset}
 use Rattle.line_forms.specs.declared.Item.{Item}
 use Rattle.line_forms.specs.declared.Item.the-variants.{Claims, Lossc, Stated, Equity as EquityItem, Aoci, B, C}
 use Rattle.line_forms.specs.declared.Amount.{Amount}
+use Rattle.line_forms.specs.declared.IndexValue.{IndexValue}
 use Rattle.line_forms.specs.declared.Content.{Content}
 use Rattle.line_forms.specs.declared.Content.the-variants.{Header as header, Loan as loan, Policy as policy, Derivative as derivative}
-use Rattle.line_forms.specs.declared.Content.the-variants.{Asset as asset, Amount as amount, NoForm}
+use Rattle.line_forms.specs.declared.Content.the-variants.{Asset as asset, Amount as amount, Index as index, NoForm}
 
 -- The header.
 
@@ -51,9 +52,23 @@ headerInRange h = within 0 1000000 (h .loans) && within 0 10000000000000 (h .hel
 abbrev pub onAgedTable : Header → Bool
 onAgedTable h = h .aged
 
+-- Areas and months (02, L4).
+
+-- NAME: the eleven areas of 000, Appendix A, and `other`
+abbrev pub areas : List (List ℕ)
+areas = choicesOf (text "calgary|edmonton|halifax|hamilton|montreal|ottawagatineau|quebec|toronto|vancouver|victoria|winnipeg|other")
+
+-- YYYYMM, which is read as a D
+unfoldable pub monthInRange : (low high : ℕ) → ℕ → Bool
+monthInRange low high n = within low high n && within 1 12 (n % 100)
+
 -- Loans.
 
--- (loan (bal D) (val D) (amort D) (term D) (score D D) (sup D)), or (score none)
+-- the month and the area that end a loan
+abbrev pub originForm : Form
+originForm = field (text ") (from ") number (field (text ") (area ") (word areas) (end (text "))")))
+
+-- (loan (bal D) (val D) (amort D) (term D) (score D D) (sup D) (from YYYYMM) (area NAME)), or (score none)
 abbrev pub loanForm : Form
 loanForm =
     field (text "(loan (bal ") number
@@ -62,10 +77,10 @@ loanForm =
     (field (text ") (term ") number
     (field (text ") (score ") score
     (field (text ") (sup ") number
-    (end (text "))")))))))
+    originForm)))))
 
 abbrev pub loanValues : Loan → Values loanForm
-loanValues l = (l .balance, (l .value, (l .amortization, (l .term, (l .score, (l .supplement, tt))))))
+loanValues l = (l .balance, (l .value, (l .amortization, (l .term, (l .score, (l .supplement, (l .from, (l .area, tt))))))))
 
 unfoldable pub scoreInRange : Score → Bool
 scoreInRange (Scored n age) = within 300 900 n && within 0 600 age
@@ -74,7 +89,7 @@ scoreInRange Unscored = true
 unfoldable pub loanInRange : Loan → Bool
 loanInRange l =
     within 1 200000000 (l .balance) && within 1 10000000000 (l .value) && within 1 480 (l .amortization) &&
-    within 1 480 (l .term) && scoreInRange (l .score) && within 0 1 (l .supplement)
+    within 1 480 (l .term) && scoreInRange (l .score) && within 0 1 (l .supplement) && monthInRange 190001 209912 (l .from)
 
 -- Policies.
 
@@ -180,6 +195,18 @@ amountValues C n = (n .plus, tt)
 unfoldable pub amountInRange : Amount → Bool
 amountInRange a = moneyInRange (a .amount)
 
+-- Values of the house price index (02, L4).
+
+-- (index NAME YYYYMM D)
+abbrev pub indexForm : Form
+indexForm = field (text "(index ") (word areas) (field (text " ") number (field (text " ") number (end (text ")"))))
+
+abbrev pub indexValues : IndexValue → Values indexForm
+indexValues i = (i .area, (i .month, (i .value, tt)))
+
+unfoldable pub indexInRange : IndexValue → Bool
+indexInRange i = monthInRange 200501 201512 (i .month) && within 1 1000000 (i .value)
+
 -- What a line holds, and how that is written.
 
 abbrev pub formFor : Content → Form
@@ -189,6 +216,7 @@ formFor (policy p) = policyForm
 formFor (derivative d) = derivativeForm
 formFor (asset a) = assetForm
 formFor (amount a) = amountForm (a .item)
+formFor (index i) = indexForm
 formFor NoForm = end []
 
 abbrev pub valuesFor : (c : Content) → Values (formFor c)
@@ -198,6 +226,7 @@ valuesFor (policy p) = policyValues p
 valuesFor (derivative d) = derivativeValues d
 valuesFor (asset a) = assetValues a
 valuesFor (amount a) = amountValues (a .item) (a .amount)
+valuesFor (index i) = indexValues i
 valuesFor NoForm = tt
 
 -- the bytes of what a line holds
@@ -214,7 +243,7 @@ SignFits Aoci n = Unit {0}
 SignFits B n = n .minus ≡ 0
 SignFits C n = n .minus ≡ 0
 
--- each number is one that its D or S can write
+-- each number is one that its D or S can write, each area one of the names
 abbrev pub Writable : Content → Type 0
 Writable (header h) = AllWritable headerForm (headerValues h)
 Writable (loan l) = AllWritable loanForm (loanValues l)
@@ -222,6 +251,7 @@ Writable (policy p) = AllWritable policyForm (policyValues p)
 Writable (derivative d) = AllWritable derivativeForm (derivativeValues d)
 Writable (asset a) = AllWritable assetForm (assetValues a)
 Writable (amount a) = AllWritable (amountForm (a .item)) (amountValues (a .item) (a .amount)) × SignFits (a .item) (a .amount)
+Writable (index i) = AllWritable indexForm (indexValues i)
 Writable NoForm = ⊥
 
 unfoldable pub inRange : Content → Bool
@@ -231,4 +261,5 @@ inRange (policy p) = policyInRange p
 inRange (derivative d) = derivativeInRange d
 inRange (asset a) = assetInRange a
 inRange (amount a) = amountInRange a
+inRange (index i) = indexInRange i
 inRange NoForm = false

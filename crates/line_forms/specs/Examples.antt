@@ -1,4 +1,4 @@
--- One line of every form as text, as 01, "A book, line by line", shows the forms.
+-- One line of every form as text, as 01, "A book, line by line", and 02, L4, show the forms.
 -- A word that is misspelt alike in the definitions and in the code is seen here.
 use mathlib.Core.Bool.{true, false}
 use Rattle.exact.specs.Text.{text}
@@ -8,7 +8,7 @@ use Rattle.line_forms.specs.declared.Class.the-variants.{Home, Multi}
 use Rattle.line_forms.specs.declared.Kind.the-variants.{Rate, Float, Fx, Equity as EquityKind, Metal, Other}
 use Rattle.line_forms.specs.declared.Item.the-variants.{Claims, Lossc, Stated, Equity as EquityItem, Aoci, B, C}
 use Rattle.line_forms.specs.declared.Content.the-variants.{Header as header, Loan as loan, Policy as policy, Derivative as derivative}
-use Rattle.line_forms.specs.declared.Content.the-variants.{Asset as asset, Amount as amount}
+use Rattle.line_forms.specs.declared.Content.the-variants.{Asset as asset, Amount as amount, Index as index}
 
 pub record LineTexts : Type 0 where
   pub fresh :
@@ -18,11 +18,11 @@ pub record LineTexts : Type 0 where
       ShowsInRange (text "(book (loans 1000000) (unscored 0) (scores aged) (held 0))")
       (header (record { loans = 1000000; unscored = 0; aged = true; held = 0 }))
   pub scored :
-      ShowsInRange (text "(loan (bal 1234567) (val 7654321) (amort 186) (term 60) (score 719 13) (sup 1))")
-      (loan (record { balance = 1234567; value = 7654321; amortization = 186; term = 60; score = Scored 719 13; supplement = 1 }))
+      ShowsInRange (text "(loan (bal 1234567) (val 7654321) (amort 186) (term 60) (score 719 13) (sup 1) (from 209912) (area toronto))")
+      (loan (record { balance = 1234567; value = 7654321; amortization = 186; term = 60; score = Scored 719 13; supplement = 1; from = 209912; area = 7 }))
   pub unscored :
-      ShowsInRange (text "(loan (bal 9) (val 80) (amort 7) (term 61) (score none) (sup 0))")
-      (loan (record { balance = 9; value = 80; amortization = 7; term = 61; score = Unscored; supplement = 0 }))
+      ShowsInRange (text "(loan (bal 9) (val 80) (amort 7) (term 61) (score none) (sup 0) (from 190001) (area other))")
+      (loan (record { balance = 9; value = 80; amortization = 7; term = 61; score = Unscored; supplement = 0; from = 190001; area = 11 }))
   pub home :
       ShowsInRange (text "(policy (class home) (prem 5000) (term 120) (done 3))")
       (policy (record { class = Home; premium = 5000; term = 120; completed = 3 }))
@@ -77,3 +77,39 @@ pub record LineTexts : Type 0 where
   pub c :
       ShowsInRange (text "(c 100)")
       (amount (record { item = C; amount = record { plus = 100; minus = 0 } }))
+  pub calgary :
+      ShowsInRange (text "(index calgary 200501 1)")
+      (index (record { area = 0; month = 200501; value = 1 }))
+  pub edmonton :
+      ShowsInRange (text "(index edmonton 200612 99)")
+      (index (record { area = 1; month = 200612; value = 99 }))
+  pub halifax :
+      ShowsInRange (text "(index halifax 200701 10000)")
+      (index (record { area = 2; month = 200701; value = 10000 }))
+  pub hamilton :
+      ShowsInRange (text "(index hamilton 200802 12345)")
+      (index (record { area = 3; month = 200802; value = 12345 }))
+  pub montreal :
+      ShowsInRange (text "(index montreal 200903 1000000)")
+      (index (record { area = 4; month = 200903; value = 1000000 }))
+  pub ottawagatineau :
+      ShowsInRange (text "(index ottawagatineau 201004 7)")
+      (index (record { area = 5; month = 201004; value = 7 }))
+  pub quebec :
+      ShowsInRange (text "(index quebec 201105 200)")
+      (index (record { area = 6; month = 201105; value = 200 }))
+  pub toronto :
+      ShowsInRange (text "(index toronto 201206 3000)")
+      (index (record { area = 7; month = 201206; value = 3000 }))
+  pub vancouver :
+      ShowsInRange (text "(index vancouver 201307 41)")
+      (index (record { area = 8; month = 201307; value = 41 }))
+  pub victoria :
+      ShowsInRange (text "(index victoria 201408 512)")
+      (index (record { area = 9; month = 201408; value = 512 }))
+  pub winnipeg :
+      ShowsInRange (text "(index winnipeg 201509 65536)")
+      (index (record { area = 10; month = 201509; value = 65536 }))
+  pub composite :
+      ShowsInRange (text "(index other 201512 10250)")
+      (index (record { area = 11; month = 201512; value = 10250 }))

@@ -8,7 +8,7 @@ use Rattle.exact.specs.Choice.{pick}
 use Rattle.line_forms.specs.Forms.{Values, choicesOf}
 use Rattle.line_forms.specs.Parsing.{valuesAt, hasForm, lettersAt, placeOf}
 use Rattle.line_forms.specs.Contents.{headerForm, headerInRange, loanForm, loanInRange, policyForm, policyInRange, derivativeForm}
-use Rattle.line_forms.specs.Contents.{derivativeInRange, assetForm, assetInRange, plainForm, signedForm, amountInRange}
+use Rattle.line_forms.specs.Contents.{derivativeInRange, assetForm, assetInRange, plainForm, signedForm, amountInRange, indexForm, indexInRange}
 use Rattle.fixed_point.specs.declared.Signed.{Signed}
 use Rattle.line_forms.specs.declared.Header.{Header}
 use Rattle.line_forms.specs.declared.Loan.{Loan}
@@ -21,12 +21,13 @@ use Rattle.line_forms.specs.declared.Derivative.{Derivative}
 use Rattle.line_forms.specs.declared.Asset.{Asset}
 use Rattle.line_forms.specs.declared.Item.{Item}
 use Rattle.line_forms.specs.declared.Item.the-variants.{Claims, Lossc, Stated, Equity, Aoci, B, C}
+use Rattle.line_forms.specs.declared.IndexValue.{IndexValue}
 use Rattle.line_forms.specs.declared.Content.{Content}
 use Rattle.line_forms.specs.declared.Content.the-variants.{Header as header, Loan as loan, Policy as policy, Derivative as derivative}
-use Rattle.line_forms.specs.declared.Content.the-variants.{Asset as asset, Amount as amount, NoForm}
+use Rattle.line_forms.specs.declared.Content.the-variants.{Asset as asset, Amount as amount, Index as index, NoForm}
 use Rattle.line_forms.specs.declared.Line.{Line}
 use Rattle.line_forms.specs.declared.Line.the-variants.{Loan as LoanLine, Policy as PolicyLine, Derivative as DerivativeLine}
-use Rattle.line_forms.specs.declared.Line.the-variants.{Asset as AssetLine, Amount as AmountLine, Refusal}
+use Rattle.line_forms.specs.declared.Line.the-variants.{Asset as AssetLine, Amount as AmountLine, Index as IndexLine, Refusal}
 use Rattle.line_forms.specs.declared.HeaderLine.{HeaderLine}
 use Rattle.line_forms.specs.declared.HeaderLine.the-variants.{Header as HeaderRead, Refusal as HeaderRefusal}
 
@@ -48,6 +49,8 @@ loanWith v = record {
   term = v .1 .1 .1 .0;
   score = v .1 .1 .1 .1 .0;
   supplement = v .1 .1 .1 .1 .1 .0;
+  from = v .1 .1 .1 .1 .1 .1 .0;
+  area = v .1 .1 .1 .1 .1 .1 .1 .0;
 }
 
 abbrev pub classAt : ℕ → Class
@@ -79,6 +82,9 @@ derivativeWith v = record {
 abbrev pub assetWith : Values assetForm → Asset
 assetWith v = record { amount = v .0; factor = v .1 .0 }
 
+abbrev pub indexWith : Values indexForm → IndexValue
+indexWith v = record { area = v .0; month = v .1 .0; value = v .1 .1 .0 }
+
 -- an amount without a sign
 abbrev pub unsigned : ℕ → Signed
 unsigned n = record { plus = n; minus = 0 }
@@ -101,6 +107,9 @@ derivativeHeld s =
 unfoldable pub assetHeld : List ℕ → Content
 assetHeld s = pick (hasForm assetForm s) (asset (assetWith (valuesAt assetForm s 0))) NoForm
 
+unfoldable pub indexHeld : List ℕ → Content
+indexHeld s = pick (hasForm indexForm s) (index (indexWith (valuesAt indexForm s 0))) NoForm
+
 -- an amount after the text t
 unfoldable pub plainHeld : Item → List ℕ → List ℕ → Content
 plainHeld i t s =
@@ -113,7 +122,7 @@ signedHeld i t s =
 
 -- the name of each form, after its opening bracket
 abbrev pub names : List (List ℕ)
-names = choicesOf (text "loan|policy|deriv|asset|book|claims|lossc|stated|equity|aoci|b|c")
+names = choicesOf (text "loan|policy|deriv|asset|book|claims|lossc|stated|equity|aoci|b|c|index")
 
 -- an amount by the place of its name
 unfoldable pub amountHeld : ℕ → List ℕ → Content
@@ -133,7 +142,8 @@ heldAs name s =
     (pick (eqb name 1) (policyHeld s)
     (pick (eqb name 2) (derivativeHeld s)
     (pick (eqb name 3) (assetHeld s)
-    (pick (eqb name 4) (headerHeld s) (amountHeld name s)))))
+    (pick (eqb name 4) (headerHeld s)
+    (pick (eqb name 12) (indexHeld s) (amountHeld name s))))))
 
 -- What a line holds.
 unfoldable pub contentOf : List ℕ → Content
@@ -148,6 +158,7 @@ lineFor (policy p) = pick (policyInRange p) (PolicyLine p) (Refusal 3)
 lineFor (derivative d) = pick (derivativeInRange d) (DerivativeLine d) (Refusal 3)
 lineFor (asset a) = pick (assetInRange a) (AssetLine a) (Refusal 3)
 lineFor (amount a) = pick (amountInRange a) (AmountLine a) (Refusal 3)
+lineFor (index i) = pick (indexInRange i) (IndexLine i) (Refusal 3)
 
 -- 01: "A line is at most 240 bytes, without its newline."
 abbrev pub longestLine : ℕ
@@ -165,6 +176,7 @@ headerFor (policy p) = HeaderRefusal 7
 headerFor (derivative d) = HeaderRefusal 7
 headerFor (asset a) = HeaderRefusal 7
 headerFor (amount a) = HeaderRefusal 7
+headerFor (index i) = HeaderRefusal 7
 headerFor (header h) =
     pick (headerInRange h) (pick (ltb (h .loans) (h .unscored)) (HeaderRefusal 4) (HeaderRead h)) (HeaderRefusal 3)
 

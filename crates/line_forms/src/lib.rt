@@ -17,7 +17,8 @@ pub struct Header {
     pub held: u64,
 }
 
-// Balance and property value in cents, remaining amortization and insurance term in months; supplement is 1 where it applies, else 0.
+// Balance and property value in cents, remaining amortization and insurance term in months; supplement is 1 where it applies, else 0;
+// the month as YYYYMM, and the area's place in the list of names.
 pub struct Loan {
     pub balance: u64,
     pub value: u64,
@@ -25,6 +26,15 @@ pub struct Loan {
     pub term: u64,
     pub score: Score,
     pub supplement: u64,
+    pub from: u64,
+    pub area: u64,
+}
+
+// A value of the house price index: the area's place in the list of names, the month as YYYYMM, the value in hundredths.
+pub struct IndexValue {
+    pub area: u64,
+    pub month: u64,
+    pub value: u64,
 }
 
 pub enum Class {
@@ -91,6 +101,7 @@ pub enum Content {
     Derivative(Derivative),
     Asset(Asset),
     Amount(Amount),
+    Index(IndexValue),
     NoForm,
 }
 
@@ -101,6 +112,7 @@ pub enum Line {
     Derivative(Derivative),
     Asset(Asset),
     Amount(Amount),
+    Index(IndexValue),
     Refusal(u64),
 }
 

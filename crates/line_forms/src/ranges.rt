@@ -2,11 +2,12 @@
 ghost use mathlib.Core.Path.{_≡_};
 ghost use Rattle.line_forms.specs.Bytes.{within};
 ghost use Rattle.line_forms.specs.Contents.{scoreInRange, loanInRange, headerInRange, policyInRange, derivativeInRange, assetInRange};
-ghost use Rattle.line_forms.specs.Contents.{moneyInRange, amountInRange};
+ghost use Rattle.line_forms.specs.Contents.{moneyInRange, amountInRange, monthInRange, indexInRange};
 use crate::Amount;
 use crate::Asset;
 use crate::Derivative;
 use crate::Header;
+use crate::IndexValue;
 use crate::Loan;
 use crate::Policy;
 use fixed_point::Signed;
@@ -23,6 +24,19 @@ pub fn header(h: Header) -> bool
     ensures { λ r. ⌜ r ≡ headerInRange h ⌝ }
 {
     between(h.loans, 0, 1000000) & between(h.held, 0, 10000000000000)
+}
+
+// A month as YYYYMM.
+fn month(n: u64, low: u64, high: u64) -> bool
+    ensures { λ r. ⌜ r ≡ monthInRange low high n ⌝ }
+{
+    between(n, low, high) & between(n % 100, 1, 12)
+}
+
+pub fn index(i: IndexValue) -> bool
+    ensures { λ r. ⌜ r ≡ indexInRange i ⌝ }
+{
+    month(i.month, 200501, 201512) & between(i.value, 1, 1000000)
 }
 
 fn score(s: Score) -> bool
@@ -44,6 +58,7 @@ pub fn loan(l: Loan) -> bool
         & between(l.term, 1, 480)
         & score(s)
         & between(l.supplement, 0, 1)
+        & month(l.from, 190001, 209912)
 }
 
 pub fn policy(p: Policy) -> bool

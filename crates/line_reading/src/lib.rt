@@ -1,5 +1,7 @@
 // From what a line holds to the line that was read, or to the refusals that need only the line (01, "A book, line by line").
 ghost use mathlib.Core.Path.{_≡_};
+ghost use Rattle.exact.specs.Choice.{pick};
+ghost use Rattle.line_forms.specs.declared.Line.the-variants.{Refusal};
 ghost use Rattle.line_forms.specs.Claims.{LineReading, HeaderReading};
 ghost use Rattle.line_forms.specs.Readings.{lineOf, lineFor, headerOf, headerFor};
 use line_forms::Content;
@@ -8,47 +10,25 @@ use line_forms::LONGEST_LINE;
 use line_forms::Line;
 use line_forms::ranges;
 
+// The line, or the refusal where its numbers are not in range.
+fn ranged(ok: bool, l: Line) -> Line
+    ensures { λ r. ⌜ r ≡ pick ok l (Refusal 3) ⌝ }
+{
+    if ok { l } else { Line::Refusal(3) }
+}
+
 fn line_for(c: Content) -> Line
     ensures { λ r. ⌜ r ≡ lineFor c ⌝ }
 {
     match c {
         Content::NoForm => Line::Refusal(2),
         Content::Header(_) => Line::Refusal(7),
-        Content::Loan(l) => {
-            if ranges::loan(l) {
-                Line::Loan(l)
-            } else {
-                Line::Refusal(3)
-            }
-        }
-        Content::Policy(p) => {
-            if ranges::policy(p) {
-                Line::Policy(p)
-            } else {
-                Line::Refusal(3)
-            }
-        }
-        Content::Derivative(d) => {
-            if ranges::derivative(d) {
-                Line::Derivative(d)
-            } else {
-                Line::Refusal(3)
-            }
-        }
-        Content::Asset(a) => {
-            if ranges::asset(a) {
-                Line::Asset(a)
-            } else {
-                Line::Refusal(3)
-            }
-        }
-        Content::Amount(a) => {
-            if ranges::amount(a) {
-                Line::Amount(a)
-            } else {
-                Line::Refusal(3)
-            }
-        }
+        Content::Loan(l) => ranged(ranges::loan(l), Line::Loan(l)),
+        Content::Policy(p) => ranged(ranges::policy(p), Line::Policy(p)),
+        Content::Derivative(d) => ranged(ranges::derivative(d), Line::Derivative(d)),
+        Content::Asset(a) => ranged(ranges::asset(a), Line::Asset(a)),
+        Content::Amount(a) => ranged(ranges::amount(a), Line::Amount(a)),
+        Content::Index(i) => ranged(ranges::index(i), Line::Index(i)),
     }
 }
 
@@ -82,6 +62,7 @@ fn header_for(c: Content) -> HeaderLine
         Content::Derivative(_) => HeaderLine::Refusal(7),
         Content::Asset(_) => HeaderLine::Refusal(7),
         Content::Amount(_) => HeaderLine::Refusal(7),
+        Content::Index(_) => HeaderLine::Refusal(7),
     }
 }
 

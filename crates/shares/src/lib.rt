@@ -4,10 +4,11 @@ ghost use Prim.Native.Nat.{_≤_, _-_};
 ghost use Rattle.loan_charge.specs.Tables.{exponentials};
 ghost use Rattle.loan_charge.specs.CreditFactor.{RatesInRange};
 ghost use Rattle.figures.specs.Sums.{zeroMoney, zeroSigned, moneyOf};
-ghost use Rattle.book_model.specs.Ranges.{LoanRanges, DerivativeRanges, AssetRanges};
+ghost use Rattle.book_model.specs.Ranges.{LoanRanges, AdjustmentRanges, DerivativeRanges, AssetRanges};
 ghost use Rattle.book_model.specs.LineKinds.{unscoredCount};
-ghost use Rattle.book_model.specs.Share.{otherShare, capitalShare, policyShare, derivativeShare, assetShare, amountShare, loanShare};
+ghost use Rattle.book_model.specs.Share.{otherShare, capitalShare, policyShare, derivativeShare, assetShare, amountShare, shareWith};
 ghost use Rattle.book_model.specs.Terms.{under, factorFor};
+use book_model::Adjustment;
 use figures::Counts;
 use figures::Money;
 use figures::Sums;
@@ -159,16 +160,19 @@ fn factor(h: Header, score: Score, rates: &Rates) -> u64
     loan_charge::credit::credit_factor(score, aged, h.loans, h.unscored, rates)
 }
 
-pub fn loan(h: Header, l: Loan, exps: &Exponentials, rates: &Rates) -> Sums
-    requires { ⌜ LoanRanges l × (now exps ≡ exponentials) × RatesInRange (now rates) ⌝ }
-    ensures { λ r. ⌜ r ≡ loanShare (under h (now (rates .entry))) l ⌝ }
+// A loan whose property value is adjusted by `a`.
+pub fn loan(h: Header, l: Loan, a: Adjustment, exps: &Exponentials, rates: &Rates) -> Sums
+    requires { ⌜ LoanRanges l × AdjustmentRanges a × (now exps ≡ exponentials) × RatesInRange (now rates) ⌝ }
+    ensures { λ r. ⌜ r ≡ shareWith (under h (now (rates .entry))) a l ⌝ }
 {
     let score = l.score;
     let m = factor(h, score, rates);
     let applies = l.supplement == 1;
+    let value = l.value * a.last;
+    let over = l.balance * a.own;
     let inputs = LoanInputs {
-        value: l.value,
-        over: l.balance,
+        value,
+        over,
         balance: l.balance,
         months: l.amortization,
         term: l.term,

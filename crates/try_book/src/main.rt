@@ -8,8 +8,12 @@ ghost use Rattle.book_model.specs.Calls.{stateAt, SoundBook, Sound};
 use book_model::Book;
 use book_model::Closed;
 use cell_report::Cells;
+use house_index::Index;
 use loan_charge::credit::Rates;
 use sheet_file::Room;
+
+// The calls are read at once, at most so many bytes.
+const INPUT: usize = 131072;
 
 // The buffers of the two closings.
 const REPORT: usize = 640;
@@ -21,10 +25,10 @@ fn print_answer(call: &[u8], refusal: u64) {
     io::print_decimal(1, refusal);
 }
 
-fn open(line: &[u8], rates: &mut Rates, cells: &mut Cells) -> Book
-    ensures { λ r. ⌜ Sound (stateAt r (now (rates .exit)) (now (cells .exit))) ⌝ }
+fn open(line: &[u8], rates: &mut Rates, cells: &mut Cells, index: &mut Index) -> Book
+    ensures { λ r. ⌜ Sound (stateAt r (now (rates .exit)) (now (cells .exit)) (now (index .exit))) ⌝ }
 {
-    let opened = book::open(line, rates, cells);
+    let opened = book::open(line, rates, cells, index);
     print_answer(b"o ", opened.refusal);
     io::write_all(1, b"\n");
     opened.book
@@ -42,12 +46,18 @@ fn numbers_of(text: &[u8], room: &mut Room) -> usize
 }
 
 // Under the sheet of these numbers.
-fn open_sheet(line: &[u8], numbers: &[u8], rates: &mut Rates, cells: &mut Cells) -> Book
-    ensures { λ r. ⌜ Sound (stateAt r (now (rates .exit)) (now (cells .exit))) ⌝ }
+fn open_sheet(
+    line: &[u8],
+    numbers: &[u8],
+    rates: &mut Rates,
+    cells: &mut Cells,
+    index: &mut Index,
+) -> Book
+    ensures { λ r. ⌜ Sound (stateAt r (now (rates .exit)) (now (cells .exit)) (now (index .exit))) ⌝ }
 {
     let mut room = [0u64; sheet_file::MOST];
     let count = numbers_of(numbers, &mut room);
-    let opened = book::open_sheet(line, &room[0..count], rates, cells);
+    let opened = book::open_sheet(line, &room[0..count], rates, cells, index);
     print_answer(b"s ", opened.refusal);
     io::write_all(1, b"\n");
     opened.book
@@ -65,11 +75,11 @@ fn tell_numbers(text: &[u8]) {
     }
 }
 
-fn feed(b: Book, rates: &Rates, cells: &mut Cells, line: &[u8]) -> Book
-    requires { ⌜ Sound (stateAt b (now rates) (now cells)) ⌝ }
-    ensures { λ r. ⌜ Sound (stateAt r (now (rates .entry)) (now (cells .exit))) ⌝ }
+fn feed(b: Book, rates: &Rates, cells: &mut Cells, index: &mut Index, line: &[u8]) -> Book
+    requires { ⌜ Sound (stateAt b (now rates) (now cells) (now index)) ⌝ }
+    ensures { λ r. ⌜ Sound (stateAt r (now (rates .entry)) (now (cells .exit)) (now (index .exit))) ⌝ }
 {
-    let fed = book::feed(b, rates, cells, line);
+    let fed = book::feed(b, rates, cells, index, line);
     print_answer(b"f ", fed.refusal);
     io::write_all(1, b"\n");
     fed.book
@@ -128,20 +138,21 @@ fn call_book(
     numbers: &[u8],
     rates: &mut Rates,
     cells: &mut Cells,
+    index: &mut Index,
     kind: u8,
     rest: &[u8],
 ) -> Book
-    requires { ⌜ Sound (stateAt b (now rates) (now cells)) ⌝ }
-    ensures { λ r. ⌜ Sound (stateAt r (now (rates .exit)) (now (cells .exit))) ⌝ }
+    requires { ⌜ Sound (stateAt b (now rates) (now cells) (now index)) ⌝ }
+    ensures { λ r. ⌜ Sound (stateAt r (now (rates .exit)) (now (cells .exit)) (now (index .exit))) ⌝ }
 {
     if kind == b'o' {
-        return open(rest, rates, cells);
+        return open(rest, rates, cells, index);
     }
     if kind == b's' {
-        return open_sheet(rest, numbers, rates, cells);
+        return open_sheet(rest, numbers, rates, cells, index);
     }
     if kind == b'f' {
-        return feed(b, rates, cells, rest);
+        return feed(b, rates, cells, index, rest);
     }
     if kind == b't' {
         close_cells(b, cells, rest);
@@ -159,10 +170,19 @@ struct Held {
 }
 
 // The call of the line that stands there; an empty line is none.
-fn call(held: Held, rates: &mut Rates, cells: &mut Cells, s: &[u8], at: usize, end: usize) -> Held
-    requires { ⌜ Sound (stateAt (held .b) (now rates) (now cells)) × (held .from ≤ held .to) × (held .to ≤ length (now s)) × (at ≤ end)
+fn call(
+    held: Held,
+    rates: &mut Rates,
+    cells: &mut Cells,
+    index: &mut Index,
+    s: &[u8],
+    at: usize,
+    end: usize,
+) -> Held
+    requires { ⌜ Sound (stateAt (held .b) (now rates) (now cells) (now index)) × (held .from ≤ held .to) × (held .to ≤ length (now s)) × (at ≤ end)
         × (end ≤ length (now s)) ⌝ }
-    ensures { λ r. ⌜ Sound (stateAt (r .b) (now (rates .exit)) (now (cells .exit))) × (r .from ≤ r .to) × (r .to ≤ length (now (s .entry))) ⌝ }
+    ensures { λ r. ⌜ Sound (stateAt (r .b) (now (rates .exit)) (now (cells .exit)) (now (index .exit))) × (r .from ≤ r .to) ×
+        (r .to ≤ length (now (s .entry))) ⌝ }
 {
     if end <= at {
         return held;
@@ -180,7 +200,15 @@ fn call(held: Held, rates: &mut Rates, cells: &mut Cells, s: &[u8], at: usize, e
             to: end,
         };
     }
-    let b = call_book(before, &s[from..to], rates, cells, kind, &s[rest..end]);
+    let b = call_book(
+        before,
+        &s[from..to],
+        rates,
+        cells,
+        index,
+        kind,
+        &s[rest..end],
+    );
     Held { b, from, to }
 }
 
@@ -190,13 +218,21 @@ struct Turn {
     at: usize,
 }
 
-fn call_at(held: Held, rates: &mut Rates, cells: &mut Cells, s: &[u8], at: usize) -> Turn
-    requires { ⌜ Sound (stateAt (held .b) (now rates) (now cells)) × (held .from ≤ held .to) × (held .to ≤ length (now s)) × (at < length (now s)) ⌝ }
-    ensures { λ r. ⌜ Sound (stateAt (r .held .b) (now (rates .exit)) (now (cells .exit))) × (r .held .from ≤ r .held .to)
+fn call_at(
+    held: Held,
+    rates: &mut Rates,
+    cells: &mut Cells,
+    index: &mut Index,
+    s: &[u8],
+    at: usize,
+) -> Turn
+    requires { ⌜ Sound (stateAt (held .b) (now rates) (now cells) (now index)) × (held .from ≤ held .to) × (held .to ≤ length (now s)) ×
+        (at < length (now s)) ⌝ }
+    ensures { λ r. ⌜ Sound (stateAt (r .held .b) (now (rates .exit)) (now (cells .exit)) (now (index .exit))) × (r .held .from ≤ r .held .to)
         × (r .held .to ≤ length (now (s .entry))) × (at < r .at) ⌝ }
 {
     let end = bytes::scan::find(s, at, s.len(), b'\n');
-    let next = call(held, rates, cells, s, at, end);
+    let next = call(held, rates, cells, index, s, at, end);
     Turn {
         held: next,
         at: end + 1,
@@ -204,23 +240,24 @@ fn call_at(held: Held, rates: &mut Rates, cells: &mut Cells, s: &[u8], at: usize
 }
 
 // The calls of the input, on the book of a refused opening and with an empty sheet at first.
-fn call_all(s: &[u8], rates: &mut Rates, cells: &mut Cells) {
-    let opened = book::open(b"", rates, cells);
+fn call_all(s: &[u8], rates: &mut Rates, cells: &mut Cells, index: &mut Index) {
+    let opened = book::open(b"", rates, cells, index);
     let b = opened.book;
     let mut held = Held { b, from: 0, to: 0 };
     let mut at = 0;
     while at < s.len() {
-        let turn = call_at(held, rates, cells, s, at);
+        let turn = call_at(held, rates, cells, index, s, at);
         held = turn.held;
         at = turn.at;
     }
 }
 
 fn main() {
-    let mut buf = io::large_buffer();
+    let mut buf = [0u8; INPUT];
     let input = cases::read_input(&mut buf);
     let n = input.count;
     let mut rates = [0u64; loan_charge::credit::RATES];
     let mut cells = [0u64; cell_report::PLACES];
-    call_all(&buf[0..n], &mut rates, &mut cells);
+    let mut index = [0u64; house_index::PLACES];
+    call_all(&buf[0..n], &mut rates, &mut cells, &mut index);
 }

@@ -1,5 +1,5 @@
-// Tries the line forms on the cases of standard input, `length feeding opening kind a b c d e f g line`, and prints
-// each case whose answer is another. The two refusals are 0 where the line is accepted; the kind and the seven numbers
+// Tries the line forms on the cases of standard input, `length feeding opening kind a b c d e f g h i line`, and prints
+// each case whose answer is another. The two refusals are 0 where the line is accepted; the kind and the nine numbers
 // are then what it holds, else 0. The line is as many bytes as its length says, whatever they are.
 ghost use Prim.Native.Nat.{_+_, _<_, _≤_};
 ghost use lib.ListN.{length};
@@ -13,6 +13,7 @@ use line_forms::Class;
 use line_forms::Derivative;
 use line_forms::Header;
 use line_forms::HeaderLine;
+use line_forms::IndexValue;
 use line_forms::Item;
 use line_forms::Kind;
 use line_forms::Line;
@@ -31,6 +32,8 @@ struct Answer {
     e: u64,
     f: u64,
     g: u64,
+    h: u64,
+    i: u64,
 }
 
 // What an accepted line of a case holds, and the position after it.
@@ -59,6 +62,8 @@ fn refused(refusal: u64) -> Answer {
         e: 0,
         f: 0,
         g: 0,
+        h: 0,
+        i: 0,
     }
 }
 
@@ -69,6 +74,8 @@ fn loan_answer(l: Loan) -> Answer {
     r.c = l.amortization;
     r.d = l.term;
     r.g = l.supplement;
+    r.h = l.from;
+    r.i = l.area;
     let score = l.score;
     match score {
         Score::Scored { number, age } => {
@@ -147,6 +154,10 @@ fn amount_answer(x: Amount) -> Answer {
     accepted(6, item_number(item), x.amount.plus, x.amount.minus, 0)
 }
 
+fn index_answer(x: IndexValue) -> Answer {
+    accepted(8, x.area, x.month, x.value, 0)
+}
+
 fn line_answer(l: Line) -> Answer {
     match l {
         Line::Loan(x) => loan_answer(x),
@@ -154,6 +165,7 @@ fn line_answer(l: Line) -> Answer {
         Line::Derivative(x) => derivative_answer(x),
         Line::Asset(x) => asset_answer(x),
         Line::Amount(x) => amount_answer(x),
+        Line::Index(x) => index_answer(x),
         Line::Refusal(n) => refused(n),
     }
 }
@@ -173,6 +185,8 @@ fn opened(h: Header) -> Answer {
         e: 0,
         f: 0,
         g: 0,
+        h: 0,
+        i: 0,
     }
 }
 
@@ -186,7 +200,30 @@ fn header_answer(h: HeaderLine) -> Answer {
 fn is_same(x: Answer, y: Answer) -> bool {
     let first = (x.refusal == y.refusal) & (x.kind == y.kind) & (x.a == y.a) & (x.b == y.b);
     let second = (x.c == y.c) & (x.d == y.d) & (x.e == y.e) & (x.f == y.f) & (x.g == y.g);
-    first & second
+    let third = (x.h == y.h) & (x.i == y.i);
+    first & second & third
+}
+
+// The last five values, after those of an answer.
+fn read_last(s: &[u8], before: Number, first: Answer) -> Values
+    requires { ⌜ before .next ≤ length (now s) ⌝ }
+    ensures { λ r. ⌜ (before .next ≤ r .next) × (r .next ≤ length (now (s .entry))) ⌝ }
+{
+    let e = cases::next_number(s, before);
+    let f = cases::next_number(s, e);
+    let g = cases::next_number(s, f);
+    let h = cases::next_number(s, g);
+    let i = cases::next_number(s, h);
+    let mut answer = first;
+    answer.e = e.value;
+    answer.f = f.value;
+    answer.g = g.value;
+    answer.h = h.value;
+    answer.i = i.value;
+    Values {
+        answer,
+        next: i.next,
+    }
 }
 
 fn read_values(s: &[u8], before: Number) -> Values
@@ -198,23 +235,11 @@ fn read_values(s: &[u8], before: Number) -> Values
     let b = cases::next_number(s, a);
     let c = cases::next_number(s, b);
     let d = cases::next_number(s, c);
-    let e = cases::next_number(s, d);
-    let f = cases::next_number(s, e);
-    let g = cases::next_number(s, f);
-    Values {
-        answer: Answer {
-            refusal: 0,
-            kind: kind.value,
-            a: a.value,
-            b: b.value,
-            c: c.value,
-            d: d.value,
-            e: e.value,
-            f: f.value,
-            g: g.value,
-        },
-        next: g.next,
-    }
+    read_last(
+        s,
+        d,
+        accepted(kind.value, a.value, b.value, c.value, d.value),
+    )
 }
 
 fn read_case(s: &[u8], at: usize) -> Case

@@ -5,26 +5,24 @@ use Rattle.line_forms.specs.declared.Line.the-variants.{Policy as PolicyLine, D
 use Rattle.line_forms.specs.Claims.{lineContent}
 use Rattle.book_model.specs.Calls.{State, Answer, stateAt, fedOf}
 use Rattle.book_model.specs.Cells.{cellsWith}
+use Rattle.book_model.specs.HouseIndex.{indexWith}
 use Rattle.book_model.specs.LineKinds.{contentKind}
 use Rattle.book_model.specs.Ranges.{Ranged, PolicyRanges, AmountRanges}
 use Rattle.book_model.specs.Share.{share}
 use Rattle.book_model.proofs.Feeding.{fed-refused}
-use Rattle.book.proofs.Answers.{loan-fed, other-asked, other-fed}
+use Rattle.book.proofs.Answers.{loan-fed, index-fed, other-asked, other-fed}
 use borrow.Author.Needs.{needs}
 use Rattle.book.proofs.feed_line.Statement.{statement}
 use Rattle.book.proofs.feed_line.Tie as tie
 
 -- the state that the call is handed
 stateFor : tie.Start → State
-stateFor c = stateAt (c .args .b) (now (c .args .rates)) (now (c .args .cells))
+stateFor c = stateAt (c .args .b) (now (c .args .rates)) (now (c .args .cells)) (now (c .args .index))
 
 add-loan-requires : tie.Need-add-loan-requires
-add-loan-requires c κs = (
-  c .before .before .before .before .pre .0,
-  subst (λ (l : Line). Ranged (lineContent l)) (c .before .before .line .given .1)
-      (c .before .before .before .before .pre .1),
-  c .before .before .before .before .pre .2,
-)
+add-loan-requires c κs =
+    let start = c .before .before .before .before .before in
+    (start .pre .0, subst (λ (l : Line). Ranged (lineContent l)) (c .before .before .before .line .given .1) (start .pre .1), start .pre .2)
 
 policy-requires : tie.Need-policy-requires
 policy-requires c κs = let r : PolicyRanges (c .before .line2 .given .0 .0) =
@@ -35,7 +33,7 @@ unfolding stateFor share contentKind
 add-other-requires c κs =
     other-asked (stateFor (c .before .before .before .before))
     (PolicyLine (c .before .before .line2 .given .0 .0)) refl (c .before .before .line2 .given .1) (c .policy .ensures)
-    (c .before .before .before .before .pre .0) (c .before .before .before .before .pre .1)
+    refl refl (c .before .before .before .before .pre .0) (c .before .before .before .before .pre .1)
 
 derivative-requires : tie.Need-derivative-requires
 derivative-requires c κs = subst (λ (l : Line). Ranged (lineContent l)) (c .before .line3 .given .1) (c .before .before .before .pre .1)
@@ -45,7 +43,7 @@ unfolding stateFor share contentKind
 add-other-requires-2 c κs =
     other-asked (stateFor (c .before .before .before .before))
     (DerivativeLine (c .before .before .line3 .given .0 .0)) refl (c .before .before .line3 .given .1) (c .derivative .ensures)
-    (c .before .before .before .before .pre .0) (c .before .before .before .before .pre .1)
+    refl refl (c .before .before .before .before .pre .0) (c .before .before .before .before .pre .1)
 
 asset-requires : tie.Need-asset-requires
 asset-requires c κs = subst (λ (l : Line). Ranged (lineContent l)) (c .before .line4 .given .1) (c .before .before .before .pre .1)
@@ -55,7 +53,7 @@ unfolding stateFor share contentKind
 add-other-requires-3 c κs =
     other-asked (stateFor (c .before .before .before .before))
     (AssetLine (c .before .before .line4 .given .0 .0)) refl (c .before .before .line4 .given .1) (c .asset .ensures)
-    (c .before .before .before .before .pre .0) (c .before .before .before .before .pre .1)
+    refl refl (c .before .before .before .before .pre .0) (c .before .before .before .before .pre .1)
 
 amount-requires : tie.Need-amount-requires
 amount-requires c κs = let r : AmountRanges (c .before .before .line5 .given .0 .0) =
@@ -66,41 +64,59 @@ unfolding stateFor share contentKind
 add-other-requires-4 c κs =
     other-asked (stateFor (c .before .before .before .before .before))
     (AmountLine (c .before .before .before .line5 .given .0 .0)) refl (c .before .before .before .line5 .given .1) (c .amount .ensures)
-    (c .before .before .before .before .before .pre .0) (c .before .before .before .before .before .pre .1)
+    refl refl (c .before .before .before .before .before .pre .0) (c .before .before .before .before .before .pre .1)
+
+add-index-requires : tie.Need-add-index-requires
+add-index-requires c κs =
+    let start = c .before .before .before .before in
+    (start .pre .0 .book, subst (λ (l : Line). Ranged (lineContent l)) (c .before .before .line6 .given .1) (start .pre .1))
 
 returns : tie.Need-returns
 unfolding stateFor
-returns c = loan-fed (stateFor (c .before .before .before .before .before)) (c .before .before .before .line .given .0 .0)
-    (c .before .before .before .line .given .1) (c .add-loan .ensures .0) (c .add-loan .ensures .1)
+returns c =
+    let told = c .before .before .before .before in
+    loan-fed (stateFor (told .before .before)) (told .line .given .0 .0) (told .line .given .1) (c .add-loan .ensures .0) (c .add-loan .ensures .1)
 
 returns-2 : tie.Need-returns-2
-unfolding stateFor share contentKind cellsWith
-returns-2 c = other-fed (stateFor (c .before .before .before .before .before)) (PolicyLine (c .before .before .before .line2 .given .0 .0)) refl
-    (c .before .before .before .line2 .given .1) (c .before .policy .ensures) refl (c .add-other .ensures)
+unfolding stateFor share contentKind cellsWith indexWith
+returns-2 c =
+    let told = c .before .before .before in
+    other-fed (stateFor (told .before .before)) (PolicyLine (told .line2 .given .0 .0)) refl (told .line2 .given .1) (c .before .policy .ensures) refl refl refl
+    (c .add-other .ensures)
 
 returns-3 : tie.Need-returns-3
-unfolding stateFor share contentKind cellsWith
+unfolding stateFor share contentKind cellsWith indexWith
 returns-3 c =
-    other-fed (stateFor (c .before .before .before .before .before)) (DerivativeLine (c .before .before .before .line3 .given .0 .0)) refl
-    (c .before .before .before .line3 .given .1) (c .before .derivative .ensures) refl
+    let told = c .before .before .before in
+    other-fed (stateFor (told .before .before)) (DerivativeLine (told .line3 .given .0 .0)) refl (told .line3 .given .1)
+    (c .before .derivative .ensures) refl refl refl
     (c .add-other2 .ensures)
 
 returns-4 : tie.Need-returns-4
-unfolding stateFor share contentKind cellsWith
-returns-4 c = other-fed (stateFor (c .before .before .before .before .before)) (AssetLine (c .before .before .before .line4 .given .0 .0)) refl
-    (c .before .before .before .line4 .given .1) (c .before .asset .ensures) refl (c .add-other3 .ensures)
+unfolding stateFor share contentKind cellsWith indexWith
+returns-4 c =
+    let told = c .before .before .before in
+    other-fed (stateFor (told .before .before)) (AssetLine (told .line4 .given .0 .0)) refl (told .line4 .given .1) (c .before .asset .ensures) refl refl refl
+    (c .add-other3 .ensures)
 
 returns-5 : tie.Need-returns-5
-unfolding stateFor share contentKind cellsWith
+unfolding stateFor share contentKind cellsWith indexWith
 returns-5 c =
-    other-fed (stateFor (c .before .before .before .before .before .before)) (AmountLine (c .before .before .before .before .line5 .given .0 .0)) refl
-    (c .before .before .before .before .line5 .given .1) (c .before .amount .ensures) refl (c .add-other4 .ensures)
+    let told = c .before .before .before .before in
+    other-fed (stateFor (told .before .before)) (AmountLine (told .line5 .given .0 .0)) refl (told .line5 .given .1) (c .before .amount .ensures) refl refl refl
+    (c .add-other4 .ensures)
 
 returns-6 : tie.Need-returns-6
 unfolding stateFor
 returns-6 c =
-    let e = fed-refused (stateFor (c .before .before .before)) (c .before .line6 .given .0 .0) in
-    rw (c .before .line6 .given .1) (ap fedOf e, ap (λ (a : Answer). a .state .cells) e)
+    let told = c .before .before .before in
+    index-fed (stateFor (told .before .before)) (told .line6 .given .0 .0) (told .line6 .given .1) (c .add-index .ensures .0) (c .add-index .ensures .1)
+
+returns-7 : tie.Need-returns-7
+unfolding stateFor
+returns-7 c =
+    let e = fed-refused (stateFor (c .before .before .before)) (c .before .line7 .given .0 .0) in
+    rw (c .before .line7 .given .1) (ap fedOf e, (ap (λ (a : Answer). a .state .cells) e, ap (λ (a : Answer). a .state .index) e))
 
 pub feed-line-spec : {M : Type 1} → statement M
 feed-line-spec =
@@ -121,9 +137,12 @@ feed-line-spec =
     amount-requires
     add-other-requires-4
     (λ c. search needs)
+    add-index-requires
+    (λ c. search needs)
     returns
     returns-2
     returns-3
     returns-4
     returns-5
-    returns-6)
+    returns-6
+    returns-7)

@@ -9,9 +9,9 @@ use Rattle.driver.proofs.Answers.{refusal-room, printed-refused, printe
 use Rattle.driver.proofs.put_answer.Statement.{statement}
 use Rattle.driver.proofs.put_answer.Tie as tie
 
--- the stage that the call is handed; what is printed does not depend on its sheet and rates
+-- the stage that the call is handed; what is printed does not depend on its sheet, rates and index values
 stageFor : tie.Start → Stage
-stageFor c = stageAt (c .args .p) [] [] (now (c .args .cells))
+stageFor c = stageAt (c .args .p) [] [] (now (c .args .cells)) []
 
 put-refusal-requires : tie.Need-put-refusal-requires
 put-refusal-requires c κs =

@@ -1,12 +1,12 @@
 -- `loan` meets its contract.
 use native.Mathlib.Omega.{arith}
-use Rattle.line_forms.specs.Contents.{loanForm}
+use Rattle.line_forms.specs.Contents.{loanForm, originForm}
 use Rattle.line_forms.specs.Readings.{loanWith, loanHeld}
 use Rattle.line_forms.specs.declared.Content.the-variants.{Loan, NoForm}
 use Rattle.line_forms.proofs.Bytes.{told-true, told-false}
 use Rattle.line_forms.proofs.FormLaws.{later}
 use Rattle.line_forms.proofs.ContentLaws.{proper-loan}
-use Rattle.line_forms.proofs.Readers.{Reading, Reached, begun, over, last, holds, holds-not, stopped, room}
+use Rattle.line_forms.proofs.Readers.{Reading, Reached, begun, over, taken, holds, holds-not, stopped, room}
 use borrow.Author.Needs.{needs}
 use Rattle.line_contents.proofs.loan.Statement.{statement}
 use Rattle.line_contents.proofs.loan.Tie as tie
@@ -38,10 +38,10 @@ reached5 c =
     let e = c .before .before .before .before in
     over (reached4 (e .before)) (told-true (e .before .stands4 .ensures) (e .if4 .left)) (c .before .before .score-at .ensures)
 
-abbrev reached6 : tie.After-skip → Reached loanForm (later 6 loanForm)
+abbrev reached6 : tie.After-origin-at → Reached loanForm originForm
 reached6 c =
-    let e = c .before .before .before .before in
-    over (reached5 (e .before)) (told-true (e .before .stands5 .ensures) (e .if5 .left)) (c .before .before .short-at3 .ensures)
+    let e = c .before .before .before in
+    over (reached5 (e .before)) (told-true (e .before .stands5 .ensures) (e .if5 .left)) (c .before .short-at3 .ensures)
 
 returns : tie.Need-returns
 unfolding loanHeld
@@ -94,16 +94,16 @@ add-short-at-3 c =
     let start = early .before .before .before .before .before .before .before .before .before .before .before .before .before .before .before .before in
     record { fits = omega (arith, k, start .good .0) }
 
-abbrev found : (c : tie.After-skip) → Reading (reached6 c .line) loanForm 0
-found c = reached6 c .whole (last (c .skip .ensures))
+abbrev found : (c : tie.After-origin-at) → Reading (reached6 c .line) loanForm 0
+found c = reached6 c .whole (taken (c .origin-at .ensures))
 
 returns-6 : tie.Need-returns-6
 unfolding loanHeld
-returns-6 c = holds (found (c .before)) (λ v. Loan (loanWith v)) NoForm (c .if6 .taken)
+returns-6 c = holds (found (c .before .before)) (λ v. Loan (loanWith v)) NoForm (c .if6 .taken)
 
 returns-7 : tie.Need-returns-7
 unfolding loanHeld
-returns-7 c = holds-not (found (c .before)) _ NoForm (c .if6 .left)
+returns-7 c = holds-not (found (c .before .before)) _ NoForm (c .if6 .left)
 
 pub loan-spec : {M : Type 1} → statement M
 loan-spec =
@@ -112,4 +112,4 @@ loan-spec =
     (λ c κs. search needs) (λ c. search needs) (λ c κs. search needs) returns-2 add-short-at (λ c κs. search needs)
     (λ c. search needs) (λ c κs. search needs) returns-3 add-short-at-2 (λ c κs. search needs) (λ c. search needs)
     (λ c κs. search needs) returns-4 add-score-at (λ c κs. search needs) (λ c. search needs) (λ c κs. search needs)
-    returns-5 add-short-at-3 (λ c κs. search needs) (λ c. search needs) (λ c κs. search needs) returns-6 returns-7)
+    returns-5 add-short-at-3 (λ c κs. search needs) (λ c κs. search needs) returns-6 returns-7)

@@ -80,24 +80,31 @@ returns-12 c =
     (c .plain5 .ensures)
 
 returns-13 : tie.Need-returns-13
-unfolding contentOf amountHeld
+unfolding contentOf
 returns-13 c =
+    rw (sym (c .before .before .word-at .ensures .0) ∙ c .before .match .keys13)
+    (c .index .ensures)
+
+returns-14 : tie.Need-returns-14
+unfolding contentOf amountHeld
+returns-14 c =
     let p = c .before .word-at .result .value in
     let k = c .match .rest in
     rw (
       ← c .before .word-at .ensures .0,
-      ne-eqb p 0 (k .0 .0 .0 .0 .0 .0 .0 .0 .0 .0 .0 .1),
-      ne-eqb p 1 (k .0 .0 .0 .0 .0 .0 .0 .0 .0 .0 .1),
-      ne-eqb p 2 (k .0 .0 .0 .0 .0 .0 .0 .0 .0 .1),
-      ne-eqb p 3 (k .0 .0 .0 .0 .0 .0 .0 .0 .1),
-      ne-eqb p 4 (k .0 .0 .0 .0 .0 .0 .0 .1),
-      ne-eqb p 5 (k .0 .0 .0 .0 .0 .0 .1),
-      ne-eqb p 6 (k .0 .0 .0 .0 .0 .1),
-      ne-eqb p 7 (k .0 .0 .0 .0 .1),
-      ne-eqb p 8 (k .0 .0 .0 .1),
-      ne-eqb p 9 (k .0 .0 .1),
-      ne-eqb p 10 (k .0 .1),
-      ne-eqb p 11 (k .1),
+      ne-eqb p 0 (k .0 .0 .0 .0 .0 .0 .0 .0 .0 .0 .0 .0 .1),
+      ne-eqb p 1 (k .0 .0 .0 .0 .0 .0 .0 .0 .0 .0 .0 .1),
+      ne-eqb p 2 (k .0 .0 .0 .0 .0 .0 .0 .0 .0 .0 .1),
+      ne-eqb p 3 (k .0 .0 .0 .0 .0 .0 .0 .0 .0 .1),
+      ne-eqb p 4 (k .0 .0 .0 .0 .0 .0 .0 .0 .1),
+      ne-eqb p 12 (k .1),
+      ne-eqb p 5 (k .0 .0 .0 .0 .0 .0 .0 .1),
+      ne-eqb p 6 (k .0 .0 .0 .0 .0 .0 .1),
+      ne-eqb p 7 (k .0 .0 .0 .0 .0 .1),
+      ne-eqb p 8 (k .0 .0 .0 .0 .1),
+      ne-eqb p 9 (k .0 .0 .0 .1),
+      ne-eqb p 10 (k .0 .0 .1),
+      ne-eqb p 11 (k .0 .1),
     )
 
 pub other-spec : {M : Type 1} → statement M
@@ -124,6 +131,7 @@ other-spec =
     (λ c κs. search needs)
     (λ c. search needs)
     (λ c κs. search needs)
+    (λ c κs. search needs)
     returns
     returns-2
     returns-3
@@ -136,4 +144,5 @@ other-spec =
     returns-10
     returns-11
     returns-12
-    returns-13)
+    returns-13
+    returns-14)

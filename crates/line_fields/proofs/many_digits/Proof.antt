@@ -1,7 +1,7 @@
 -- `many_digits` meets its contract.
 use Prim.Native.Nat.{_+_}
 use native.Mathlib.Omega.{arith}
-use Rattle.line_forms.proofs.Bytes.{told-true, told-false, Part, more-part, run-part}
+use Rattle.line_forms.proofs.Bytes.{told-true, told-false, Part, tested-part, more-part, run-part}
 use borrow.Author.Needs.{needs}
 use Rattle.line_fields.proofs.many_digits.Statement.{statement}
 use Rattle.line_fields.proofs.many_digits.Tie as tie
@@ -9,13 +9,7 @@ use Rattle.line_fields.proofs.many_digits.Tie as tie
 abbrev eight : tie.Else3 → Part 48 57
 eight c =
     let a = c .before .before .before .before .before .before .args in
-    record {
-      line = a .line .now;
-      at = a .at;
-      end = a .at + 8;
-      order = omega arith;
-      all = told-true (c .before .all-digits .ensures) (c .if3 .left);
-    }
+    tested-part 48 57 (a .line .now) (a .at) 8 (told-true (c .before .all-digits .ensures) (c .if3 .left))
 
 abbrev nine : tie.Else4 → Part 48 57
 nine c =

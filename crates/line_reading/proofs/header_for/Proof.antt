@@ -59,6 +59,11 @@ unfolding headerFor
 returns-9 c =
     rw (c .enum-told6 .given .1)
 
+returns-10 : tie.Need-returns-10
+unfolding headerFor
+returns-10 c =
+    rw (c .enum-told7 .given .1)
+
 pub header-for-spec : {M : Type 1} → statement M
 header-for-spec =
     tie.close
@@ -73,10 +78,12 @@ header-for-spec =
     (λ c. search needs)
     (λ c. search needs)
     (λ c. search needs)
+    (λ c. search needs)
     returns-3
     returns-4
     returns-5
     returns-6
     returns-7
     returns-8
-    returns-9)
+    returns-9
+    returns-10)

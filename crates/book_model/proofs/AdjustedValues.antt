@@ -1,0 +1,119 @@
+-- Index values and the loans that go by them, over the lines taken. Assumes nothing.
+use mathlib.Core.Path.{_≡_, refl, sym, _∙_, ap, ap₂, subst}
+use mathlib.Core.Bool.{Bool, true, false}
+use mathlib.Core.List.{List, [], _∷_, _++_, List·Memᴰ, List·Memᴰ·head, List·Memᴰ·tail}
+use mathlib.Core.Logic.{_↔_}
+use Prim.Native.Nat.{ℕ, _*_, _≤_}
+use native.Mathlib.Nat.{mul-pos}
+use native.Mathlib.Omega.{arith}
+use lib.Dec.{eqb}
+use borrow.Author.Tests.{eqb-true}
+use Rattle.exact.specs.Choice.{pick}
+use Rattle.exact.specs.Fraction.{quotient, whole, _⊗_, Equals}
+use Rattle.loan_charge.specs.Computation.{chargeOf}
+use Rattle.line_forms.specs.declared.IndexValue.{IndexValue}
+use Rattle.line_forms.specs.declared.Loan.{Loan}
+use Rattle.line_forms.specs.declared.Content.the-variants.{Loan as loan, Index as index}
+use Rattle.line_forms.specs.Claims.{ShowsInRange, lineContent}
+use Rattle.line_forms.specs.Readings.{lineOf}
+use Rattle.book_model.specs.declared.Adjustment.{Adjustment}
+use Rattle.book_model.specs.Accepted.{refusalOf, accept}
+use Rattle.book_model.specs.AdjustedValues.{AdjustedRatio, AdjustedValues}
+use Rattle.book_model.specs.Demand2.{Indexed, IsSet}
+use Rattle.book_model.specs.History.{History, fed, allFed, termsOf, acceptedOf, linesTaken}
+use Rattle.book_model.specs.HouseIndex.{Index, isIndexed, adjustmentOf, lacking, valuesIn}
+use Rattle.book_model.specs.Share.{numbersWith, loanNumbers}
+use Rattle.book_model.specs.Terms.{Basis, factorFor, loanInputs}
+use Rattle.book_model.proofs.Adjustments.{Settled, Extends, adjusted-alike, indexed-is, kept-is, loan-has}
+use Rattle.book_model.proofs.Ledger.{values-stay, good-of}
+use Rattle.book_model.proofs.SetValues.{is-set, is-indexed, values-set, index-content, loan-content}
+
+-- The value is that of the line taken.
+values : (past : History) (area month value : ℕ) → 1 ≤ value →
+    (valuesIn (linesTaken past) area month ≡ value) ↔
+    ((s : List ℕ) × List·Memᴰ s (linesTaken past) × ShowsInRange s (index (record { area = area; month = month; value = value })))
+values past area month value h = (
+  λ e.
+      let k : IsSet (linesTaken past) area month = is-set (linesTaken past) area month .1 (omega (arith, e, h)) in
+      let i : IndexValue = record { area = area; month = month; value = k .value } in
+      let v : valuesIn (linesTaken past) area month ≡ k .value = good-of past .once (k .line) i (k .taken) (index-content (k .line) i (k .shown)) in (
+        k .line,
+        k .taken,
+        subst (λ (x : ℕ). ShowsInRange (k .line) (index (record { area = area; month = month; value = x }))) (sym v ∙ e) (k .shown),
+      ),
+  λ (s, m, k).
+      let i : IndexValue = record { area = area; month = month; value = value } in
+      good-of past .once s i m (index-content s i k),
+)
+
+-- One line more, taken or not, leaves every value that is set.
+stays-fed : (past : History) (s : List ℕ) → Extends (valuesIn (linesTaken past)) (valuesIn (linesTaken (fed past s)))
+unfolding acceptedOf accept
+stays-fed past s area month h = go (eqb (refusalOf (termsOf past) (acceptedOf past) s) 0) refl
+  where
+    go : (t : Bool) → eqb (refusalOf (termsOf past) (acceptedOf past) s) 0 ≡ t →
+        valuesIn (pick t (linesTaken past ++ (s ∷ [])) (linesTaken past)) area month ≡ valuesIn (linesTaken past) area month
+    go true e = values-stay (termsOf past) (acceptedOf past) s (eqb-true (refusalOf (termsOf past) (acceptedOf past) s) 0 e) area month h
+    go false e = refl
+
+stays : (past : History) (lines : List (List ℕ)) → Extends (valuesIn (linesTaken past)) (valuesIn (linesTaken (allFed past lines)))
+unfolding allFed
+stays past [] area month h = refl
+stays past (s ∷ lines) area month h =
+    let e = stays-fed past s area month h in
+    stays (fed past s) lines area month (omega (arith, e, h)) ∙ e
+
+-- A loan taken has its values.
+settled-line : (by : Index) (kept : List (List ℕ)) → Settled by kept → (s : List ℕ) → List·Memᴰ s kept → (l : Loan) → lineContent (lineOf s) ≡ loan l →
+    lacking (adjustmentOf by l) ≡ false
+unfolding Settled
+settled-line by (r ∷ kept) h s (List·Memᴰ·head e) l c = loan-has by l (ap (λ (x : List ℕ). lineContent (lineOf x)) (sym e) ∙ c) (h .0)
+settled-line by (r ∷ kept) h s (List·Memᴰ·tail m) l c = settled-line by kept (h .1) s m l c
+
+-- The ratio that a loan is charged by
+adjusted : (value balance last own : ℕ) → 1 ≤ balance → 1 ≤ own →
+    Equals (quotient (value * last) (balance * own)) (whole value ⊗ quotient last own ⊗ quotient 1 balance)
+adjusted value balance last own b o =
+    let p : 1 ≤ balance * own = mul-pos b o in
+    record { left = record { positive = p }; right = record { positive = omega (arith, p) }; same = record { crossed = omega arith } }
+
+ratio : (g : Basis) (l : Loan) → AdjustedRatio g l
+ratio g l = record {
+  indexed = λ h b o.
+      rw (indexed-is (g .index) l (is-indexed l .1 h))
+      (adjusted (l .value) (l .balance) (g .index (l .area) 201512) (g .index (l .area) (l .from)) b o);
+  kept = λ n. go (isIndexed l) refl n;
+}
+  where
+    go : (t : Bool) → isIndexed l ≡ t → (Indexed l → ⊥) → (loanInputs g l .value ≡ l .value) × (loanInputs g l .over ≡ l .balance)
+    go true t n = absurd (n (is-indexed l .0 t))
+    go false t n = rw (kept-is (g .index) l t) (omega arith, omega arith)
+
+depends : (g k : Basis) (l : Loan) → factorFor (g .terms) (l .score) ≡ factorFor (k .terms) (l .score) →
+    (Indexed l → (g .index (l .area) (l .from) ≡ k .index (l .area) (l .from)) × (g .index (l .area) 201512 ≡ k .index (l .area) 201512)) →
+    loanNumbers g l ≡ loanNumbers k l
+unfolding numbersWith
+depends g k l m h =
+    let a : adjustmentOf (g .index) l ≡ adjustmentOf (k .index) l = adjusted-alike (g .index) (k .index) l (λ t. h (is-indexed l .0 t)) in
+    ap₂ (λ (x : Adjustment) (f : ℕ). chargeOf (record {
+      value = l .value * x .last;
+      over = l .balance * x .own;
+      balance = l .balance;
+      months = l .amortization;
+      term = l .term;
+      supplement = eqb (l .supplement) 1;
+      factor = f;
+    })) a m
+
+pub adjusted-values : AdjustedValues
+adjusted-values = record {
+  values = values;
+  set = λ past area month. (is-set (linesTaken past) area month .1, is-set (linesTaken past) area month .0);
+  stays = stays;
+  settled = λ past s l m h.
+      values-set (linesTaken past) l
+      (settled-line (valuesIn (linesTaken past)) (linesTaken past) (good-of past .settled) s m l (loan-content s l h));
+  ratio = ratio;
+  column = λ g l. refl;
+  depends = depends;
+}
