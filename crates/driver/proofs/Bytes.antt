@@ -1,13 +1,13 @@
 -- The bytes of an input in turn: where it is cut does not matter, and a line may be read at once. Assumes nothing.
 use mathlib.Core.Path.{_≡_, refl, sym, _∙_, ap}
 use mathlib.Core.Bool.{Bool, true, false, not, _&&_, false≢true}
-use mathlib.Core.List.{List, [], _∷_, _++_, append-assoc, append-nil}
+use mathlib.Core.List.{List, [], _∷_, _++_}
 use Prim.Native.Nat.{ℕ, _+_, _-_, _≤_, _<_}
 use native.Mathlib.Omega.{arith}
 use native.Mathlib.Numerals.{add-one}
 use lib.Dec.{eqb, ltb}
-use lib.ListN.{length, take, drop, set, getD, length-append, length-take, length-drop, take-append-drop}
-use lib.Seq.{take-suc, take-suc-set, take-all, take-append-le, length-take-le, take-take, take-add}
+use lib.ListN.{length, take, drop, getD, length-take, length-drop}
+use lib.Seq.{take-suc, take-all, length-take-le, take-add}
 use borrow.Author.Tests.{eq-eqb, ltb-true, ltb-false}
 use Rattle.bytes.specs.Bytes.{indexOf}
 use Rattle.line_forms.specs.declared.Line.the-variants.{Refusal}
@@ -15,8 +15,10 @@ use Rattle.line_forms.specs.declared.HeaderLine.the-variants.{Refusal as Header
 use Rattle.line_forms.specs.Readings.{lineOf, headerOf}
 use Rattle.line_forms.proofs.HeaderLaws.{header-reading, refused-header}
 use Rattle.line_forms.proofs.LineLaws.{line-reading, refused-line}
-use Rattle.driver.specs.Reading.{Stage, Reading, newline, unbroken, withLine, withByte, withBytes, withTail}
-use Rattle.driver.proofs.FirstNewline.{unbroken-append, index-unbroken, index-at}
+use Rattle.line_bytes.specs.LineBytes.{newline, unbroken, withTail}
+use Rattle.line_bytes.proofs.FirstNewline.{index-unbroken, index-at}
+use Rattle.line_bytes.proofs.Tail.{tail-tail, tail-none}
+use Rattle.driver.specs.Reading.{Stage, Reading, withLine, withByte, withBytes}
 
 -- Of a line over 240 bytes the first 241 read the same.
 
@@ -37,51 +39,6 @@ cut-same p s = go (ltb 240 (length s)) refl
     go true e = let n : 240 < length s = omega (arith, ltb-true 240 (length s) e) in long-same p (take 241 s) s
         (rw (length-take-le 241 s (omega arith)) (omega arith)) n
     go false e = rw (take-all 241 s (omega (arith, ltb-false 240 (length s) e))) refl
-
--- The first bytes of a line, of which the first were taken before.
-pub take-front : (n : ℕ) (a b : List ℕ) → take n (take n a ++ b) ≡ take n (a ++ b)
-take-front n a b = go (ltb (length a) n) refl
-  where
-    go : (t : Bool) → ltb (length a) n ≡ t → take n (take n a ++ b) ≡ take n (a ++ b)
-    go true e = rw (take-all n a (omega (arith, ltb-true (length a) n e))) refl
-    go false e =
-        let h : n ≤ length a = ltb-false (length a) n e in
-        let m : length (take n a) ≡ n = length-take-le n a h in
-        rw (take-append-le n a b h, take-append-le n (take n a) b (omega arith)) (take-take n n a (omega arith))
-
-tail-tail : (line more bytes : List ℕ) → withTail (withTail line more) bytes ≡ withTail line (more ++ bytes)
-tail-tail line more bytes = take-front 241 (line ++ more) bytes ∙ ap (λ (l : List ℕ). take 241 l) (append-assoc line more bytes)
-
-pub tail-none : (line : List ℕ) → length line ≤ 241 → line ≡ withTail line []
-tail-none line h = sym (ap (λ (l : List ℕ). take 241 l) (append-nil line) ∙ take-all 241 line h)
-
-pub tail-next : (line bytes : List ℕ) (i : ℕ) → i < length bytes →
-    withTail (withTail line (take i bytes)) (getD bytes i 0 ∷ []) ≡ withTail line (take (i + 1) bytes)
-tail-next line bytes i h = rw (add-one i, take-suc bytes i 0 h) (tail-tail line (take i bytes) (getD bytes i 0 ∷ []))
-
--- a byte that is held
-pub tail-more : (tail : List ℕ) (held byte : ℕ) → held < 241 → length tail ≡ 242 → take (held + 1) (set tail held byte) ≡ withTail (take held tail) (byte ∷ [])
-tail-more tail held byte h e =
-    let n : length (take held tail) ≡ held = length-take-le held tail (omega arith) in
-    rw (add-one held, take-suc-set tail held byte (omega arith))
-    (sym (take-all 241 (take held tail ++ (byte ∷ [])) (rw (length-append (take held tail) (byte ∷ [])) (omega arith))))
-
--- a byte beyond those that are held
-pub tail-full : (tail : List ℕ) (held byte : ℕ) → held ≡ 241 → length tail ≡ 242 → take held tail ≡ withTail (take held tail) (byte ∷ [])
-tail-full tail held byte h e =
-    let n : length (take held tail) ≡ held = length-take-le held tail (omega arith) in
-    rw (take-append-le 241 (take held tail) (byte ∷ []) (omega arith)) (sym (take-all 241 (take held tail) (omega arith)))
-
--- what is held of an unbroken line and unbroken bytes is unbroken
-unbroken-front : (n : ℕ) (s : List ℕ) → unbroken s ≡ true → unbroken (take n s) ≡ true
-unbroken-front n s e = go (unbroken (take n s)) (sym (unbroken-append (take n s) (drop n s)) ∙ ap unbroken (take-append-drop n s) ∙ e)
-  where
-    go : (a : Bool) → (a && unbroken (drop n s)) ≡ true → a ≡ true
-    go true k = refl
-    go false k = k
-
-pub unbroken-tail : (a b : List ℕ) → unbroken a ≡ true → unbroken b ≡ true → unbroken (withTail a b) ≡ true
-unbroken-tail a b e f = unbroken-front 241 (a ++ b) (unbroken-append a b ∙ rw (e, f) refl)
 
 -- reading a and then b is reading both at once
 pub bytes-append : (s : Reading) (a b : List ℕ) → withBytes s (a ++ b) ≡ withBytes (withBytes s a) b
@@ -165,7 +122,3 @@ line-read s bytes p i end so-far inside found h =
     ∙ ap (λ (x : Reading). withBytes x (take (end - i + 1) (drop i bytes))) (sym so-far)
     ∙ first-line p [] (drop i bytes) (omega arith) (end - i) k (omega arith)
     ∙ (λ j. record { stage = cut-same p (take (end - i) (drop i bytes)) j; tail = [] })
-
--- bytes in which no newline is found are unbroken
-pub none-found : (bytes : List ℕ) (end : ℕ) → end ≡ indexOf newline bytes → length bytes ≤ end → unbroken bytes ≡ true
-none-found bytes end found h = ap unbroken (sym (take-all end bytes h)) ∙ rw found (index-unbroken bytes)

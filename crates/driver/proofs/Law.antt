@@ -16,11 +16,13 @@ use Rattle.book_model.specs.Accepted.{refusalFor}
 use Rattle.book_model.specs.Calls.{State, Answer, openingFor, opening, feedingLine, feeding}
 use Rattle.book_model.specs.LineKinds.{contentKind}
 use Rattle.book_model.proofs.Openings.{number, header-fails}
+use Rattle.line_bytes.specs.LineBytes.{newline, withTail}
+use Rattle.line_bytes.proofs.Tail.{take-front}
+use Rattle.printing.proofs.Answers.{printed-refused, printed-empty, printed-end}
 use Rattle.driver.specs.Program.{Settled}
-use Rattle.driver.specs.Reading.{Stage, Reading, atStart, fromStart, after, newline, withTail, withLine, withByte, withBytes}
+use Rattle.driver.specs.Reading.{Stage, Reading, atStart, fromStart, after, withLine, withByte, withBytes}
 use Rattle.driver.proofs.LineLaws.{line-refused, line-opens, line-fed}
-use Rattle.driver.proofs.Bytes.{long-line, long-header, cut-same, take-front, bytes-append}
-use Rattle.driver.proofs.Answers.{printed-refused, printed-empty, printed-end}
+use Rattle.driver.proofs.Bytes.{long-line, long-header, cut-same, bytes-append}
 use Rattle.driver.specs.Printed.{lastOf, linesFrom, linesOf, printedFeeding, printedLines, printed, printedFor, endedWith, ended}
 
 -- the reading after a byte, with the whole line in place of its first bytes
@@ -99,12 +101,12 @@ answered-lines asked a number sheet lines = go (eqb (a .refusal) 0) refl
     go false e =
         ap (printedFor asked)
         (refused-lines (record { refusal = a .refusal; number = number; sheet = sheet; state = a .state }) lines (eqb-false (a .refusal) 0 e))
-        ∙ printed-refused asked (record { refusal = a .refusal; number = number; sheet = sheet; state = a .state }) (eqb-false (a .refusal) 0 e)
+        ∙ printed-refused asked (a .refusal) number (a .state .book) (a .state .cells) (eqb-false (a .refusal) 0 e)
 
 feeding-lines : (asked : Bool) (sheet : List ℕ) (lines : List (List ℕ)) (s : State) (number : ℕ) → 2 ≤ number →
     printedFor asked (withLines (record { refusal = 0; number = number; sheet = sheet; state = s }) lines) ≡ printedFeeding asked s number lines
 unfolding withLines printedFeeding
-feeding-lines asked sheet [] s number h = printed-end asked (record { refusal = 0; number = number; sheet = sheet; state = s }) refl (λ e. omega arith)
+feeding-lines asked sheet [] s number h = printed-end asked 0 number (s .book) (s .cells) refl (λ e. omega arith)
 feeding-lines asked sheet (line ∷ lines) s number h =
     ap (λ (q : Stage). printedFor asked (withLines q lines))
     (sym (line-fed (record { refusal = 0; number = number; sheet = sheet; state = s }) line refl (λ e. omega arith)))
@@ -114,7 +116,7 @@ feeding-lines asked sheet (line ∷ lines) s number h =
 
 start-lines : (asked : Bool) (sheet : List ℕ) (lines : List (List ℕ)) → printedFor asked (withLines (atStart sheet) lines) ≡ printedLines asked sheet lines
 unfolding withLines printedLines
-start-lines asked sheet [] = printed-empty asked (atStart sheet) refl refl
+start-lines asked sheet [] = printed-empty asked 0 1 (atStart sheet .state .book) (atStart sheet .state .cells) refl refl
 start-lines asked sheet (line ∷ lines) =
     ap (λ (q : Stage). printedFor asked (withLines q lines)) (sym (line-opens (atStart sheet) line refl refl))
     ∙ answered-lines asked (opening sheet line) 1 sheet lines

@@ -1,6 +1,4 @@
-pub mod Answers
 pub mod Bytes
-pub mod FirstNewline
 pub mod Law
 pub mod LineLaws
 pub mod Program

@@ -25,7 +25,8 @@ use Rattle.book_model.proofs.Examples.{twelve, counts-none}
 use Rattle.book_model.proofs.Ledger.{Good, good-of}
 use Rattle.book_model.proofs.LoanTable.{cells-text, cell-sums, cells-permuted}
 use Rattle.book_model.proofs.Steps.{stateOf, counts, step}
-use Rattle.driver.specs.Printed.{lastOf, linesFrom, linesOf, withTable, printedAtEnd, printedFeeding, printedLines, printed}
+use Rattle.printing.specs.AtEnd.{withTable, printedAtEnd}
+use Rattle.driver.specs.Printed.{lastOf, linesFrom, linesOf, printedFeeding, printedLines, printed}
 use Rattle.driver.specs.Program.{AllTaken, Outcome, no-line, not-opened, not-taken, too-few, report, Reports, workedInput, Program}
 use Rattle.driver.proofs.Law.{stops}
 

@@ -1,34 +1,26 @@
 -- What a run stands for after each of its steps: one lemma for each way that the proofs go. Assumes nothing.
 use mathlib.Core.Path.{_≡_, refl, sym, _∙_, ap, subst}
-use mathlib.Core.Bool.{Bool, true, false, _&&_, true≢false}
+use mathlib.Core.Bool.{Bool, true}
 use mathlib.Core.List.{List, [], _∷_, _++_}
 use Prim.Native.Nat.{ℕ, _+_, _-_, _≤_, _<_}
 use native.Mathlib.Omega.{arith}
 use native.Mathlib.Numerals.{add-one}
 use native.Mathlib.Decide.{decLt}
 use lib.ListN.{length, take, drop, set, length-append, length-drop, length-take, take-append-drop}
-use lib.Seq.{take-all, take-suc-set, length-take-le, drop-append-le}
+use lib.Seq.{take-all, take-suc-set, length-take-le}
 use Rattle.bytes.specs.Bytes.{indexOf}
-use Rattle.report.specs.Line.{Written}
+use Rattle.report.specs.Line.{onto, Written}
 use Rattle.book_model.specs.Calls.{stateAt, Sound}
+use Rattle.line_bytes.specs.LineBytes.{newline, unbroken, withTail}
+use Rattle.line_bytes.proofs.FirstNewline.{newline-last, index-unbroken}
+use Rattle.line_bytes.proofs.Tail.{unbroken-tail}
 use Rattle.driver.specs.declared.Progress.{Progress}
 use Rattle.driver.specs.declared.Run.{Run}
-use Rattle.driver.specs.Printed.{printedFor, ended, PrintsWhole}
-use Rattle.driver.specs.Reading.{Stage, Reading, newline, unbroken, withLine, withTail, withBytes, stageAt, readingOf, Running}
-use Rattle.driver.proofs.Bytes.{bytes-append, bytes-tail, first-line, no-line, line-ended, unbroken-tail}
-use Rattle.driver.proofs.FirstNewline.{unbroken-append, index-unbroken}
+use Rattle.driver.specs.Printed.{printedFor, endedWith, ended, PrintsWhole}
+use Rattle.driver.specs.Reading.{Stage, Reading, withLine, withBytes, stageAt, readingOf, Running}
+use Rattle.driver.proofs.Bytes.{bytes-append, bytes-tail, first-line, no-line, line-ended}
 use Rattle.driver.proofs.Law.{whole}
 use Rattle.driver.proofs.LineLaws.{Ended, ended-by}
-
--- no line before a place after which a newline stands
-newline-last : (w : List ℕ) (rest : ℕ) → rest ≤ length w → unbroken (drop rest (w ++ (newline ∷ []))) ≡ true → ⊥
-unfolding unbroken
-newline-last w rest h e = go (unbroken (drop rest w)) (sym (unbroken-append (drop rest w) (newline ∷ []))
-    ∙ ap unbroken (sym (drop-append-le rest w (newline ∷ []) h)) ∙ e)
-  where
-    go : (b : Bool) → (b && false) ≡ true → ⊥
-    go true k = true≢false (sym k)
-    go false k = true≢false (sym k)
 
 -- A held line is ended by a newline after it: q is the stage after the lines of the buffer's first bytes.
 pub held-ended : (p : Stage) (tail : List ℕ) (held rest : ℕ) (q : Stage) → held ≤ 241 → length tail ≡ 242 → unbroken (take held tail) ≡ true →
@@ -139,8 +131,20 @@ module _ (run : Run) (sheet rates cells index chunk : List ℕ) (running : Runni
         r .1,
       )
 
+-- the end of the input ends a line that has bytes
+pub ended-line : (p : Stage) (line : List ℕ) → 1 ≤ length line → endedWith p line ≡ withLine p line
+unfolding endedWith
+ended-line p [] h = absurd (omega arith)
+ended-line p (byte ∷ line) h = refl
+
 -- what is written at the end is what is printed of the whole input
 pub prints : (asked : Bool) (s : Reading) {old new : List ℕ} {n : ℕ} → Written old (printedFor asked (ended s)) n new →
     Written old (printedFor asked (ended s)) n new × PrintsWhole asked s old n new
 prints asked s {old} {new} {n} w =
     (w, λ sheet input e. subst (λ (t : List ℕ). Written old t n new) (ap (λ (x : Reading). printedFor asked (ended x)) e ∙ whole asked sheet input) w)
+
+-- what is written lies within the buffer
+pub written-within : {old t new : List ℕ} {r : ℕ} → Written old t r new → r ≤ length new
+unfolding onto
+written-within {old} {t} {new} w =
+    omega (arith, w .count, ap length (w .bytes) ∙ length-append t (drop (length t) old))

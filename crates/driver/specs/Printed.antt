@@ -6,9 +6,10 @@ use mathlib.Core.Path.{_≡_}
 use lib.Dec.{eqb}
 use Rattle.exact.specs.Choice.{pick}
 use Rattle.report.specs.Line.{refusalLine, Written}
-use Rattle.book_model.specs.declared.Book.{Book}
-use Rattle.book_model.specs.Calls.{State, opening, feeding, tooFew, reportOf, cellsTextOf}
-use Rattle.driver.specs.Reading.{Stage, Reading, fromStart, withLine, withBytes, newline}
+use Rattle.book_model.specs.Calls.{State, opening, feeding}
+use Rattle.line_bytes.specs.LineBytes.{newline}
+use Rattle.printing.specs.AtEnd.{printedAtEnd, printedWith}
+use Rattle.driver.specs.Reading.{Stage, Reading, fromStart, withLine, withBytes}
 
 -- the end of the input ends a line that has bytes
 unfoldable pub lastOf : List ℕ → List (List ℕ)
@@ -23,15 +24,6 @@ linesFrom line (byte ∷ bytes) =
 
 abbrev pub linesOf : List ℕ → List (List ℕ)
 linesOf input = linesFrom [] input
-
--- a report, with the table of cells after it where that is asked for
-abbrev pub withTable : (asked : Bool) → (report table : List ℕ) → List ℕ
-withTable asked report table = pick asked (report ++ table) report
-
--- at the end of the lines, of which the next would have this number
-unfoldable pub printedAtEnd : Bool → Book → (cells : List ℕ) → ℕ → List ℕ
-printedAtEnd asked b cells number =
-    pick (tooFew (b .header) (b .sums .counts)) (refusalLine 6 number) (withTable asked (reportOf b) (cellsTextOf cells))
 
 -- lines fed in turn to a book, the first of this number
 unfoldable pub printedFeeding : Bool → State → ℕ → List (List ℕ) → List ℕ
@@ -51,10 +43,6 @@ abbrev pub printed : (asked : Bool) → (sheet input : List ℕ) → List ℕ
 printed asked sheet input = printedLines asked sheet (linesOf input)
 
 -- what is printed where the lines end
-unfoldable pub printedWith : Bool → (refusal number : ℕ) → Book → (cells : List ℕ) → List ℕ
-printedWith asked refusal number b cells =
-    pick (eqb refusal 0) (pick (eqb number 1) (refusalLine 2 1) (printedAtEnd asked b cells number)) (refusalLine refusal number)
-
 abbrev pub printedFor : Bool → Stage → List ℕ
 printedFor asked p = printedWith asked (p .refusal) (p .number) (p .state .book) (p .state .cells)
 

@@ -16,7 +16,8 @@ use Rattle.book_model.specs.Demand3.{reportFor, Measured}
 use Rattle.book_model.specs.Examples.{workedReport}
 use Rattle.book_model.specs.History.{opened, allFed, termsOf, linesTaken}
 use Rattle.book_model.specs.LoanTable.{cellsFor, CellSums}
-use Rattle.driver.specs.Printed.{linesOf, withTable, printed}
+use Rattle.printing.specs.AtEnd.{withTable}
+use Rattle.driver.specs.Printed.{linesOf, printed}
 use Rattle.driver.specs.Reading.{Reading, fromStart, withBytes}
 
 -- The header line opens a book under the sheet, and all these lines after it are taken.

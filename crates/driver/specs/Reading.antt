@@ -1,14 +1,15 @@
 -- Reading a book from an input of bytes, as one function of a byte after the other: so it does not matter where reads cut the input.
 use Prim.Native.Nat.{ℕ, _+_, _≤_}
 use mathlib.Core.Path.{_≡_}
-use mathlib.Core.Bool.{Bool, true, not, _&&_}
-use mathlib.Core.List.{List, [], _∷_, _++_}
+use mathlib.Core.Bool.{true}
+use mathlib.Core.List.{List, [], _∷_}
 use lib.Dec.{eqb}
 use lib.ListN.{length, take}
 use Rattle.exact.specs.Choice.{pick}
 use Rattle.book_model.specs.declared.Book.{Book}
 use Rattle.book_model.specs.Calls.{State, Answer, stateAt, emptyState, opening, feeding, Sound}
 use Rattle.book_model.specs.Terms.{refusedTerms}
+use Rattle.line_bytes.specs.LineBytes.{newline, unbroken, mostHeld, withTail}
 use Rattle.driver.specs.declared.Progress.{Progress}
 use Rattle.driver.specs.declared.Run.{Run}
 
@@ -41,22 +42,6 @@ pub record Reading : Type 0 where
 
 abbrev pub fromStart : (sheet : List ℕ) → Reading
 fromStart sheet = record { stage = atStart sheet; tail = [] }
-
--- the byte that ends a line
-abbrev pub newline : ℕ
-newline = 10
-
--- whether no byte ends a line
-unfoldable pub unbroken : List ℕ → Bool
-unbroken [] = true
-unbroken (byte ∷ bytes) = not (eqb byte newline) && unbroken bytes
-
--- A line with more bytes. Beyond 240 bytes a line is refused whatever they are, so 241 are enough.
-abbrev pub mostHeld : ℕ
-mostHeld = 241
-
-abbrev pub withTail : (line bytes : List ℕ) → List ℕ
-withTail line bytes = take mostHeld (line ++ bytes)
 
 -- A newline ends the line; any other byte is added to it.
 unfoldable pub withByte : Reading → ℕ → Reading

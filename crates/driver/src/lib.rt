@@ -1,29 +1,22 @@
 // The program's work: lines of an input that comes in parts, and what is printed of it. Only the reads and the write are left to the program.
-mod newlines;
-
 ghost use mathlib.Core.Path.{_≡_};
-ghost use mathlib.Core.Bool.{true, false};
-ghost use mathlib.Core.List.{[], _∷_};
-ghost use Prim.Native.Nat.{_+_, _*_, _^_, _≤_, _<_};
+ghost use mathlib.Core.Bool.{true};
+ghost use mathlib.Core.List.{[]};
+ghost use Prim.Native.Nat.{_+_, _^_, _≤_, _<_};
 ghost use lib.ListN.{length, take, drop};
 ghost use Rattle.loan_charge.specs.Tables.{exponentials};
 ghost use Rattle.report.specs.Line.{Written};
-ghost use Rattle.book_model.specs.Calls.{stateAt, tooFew, reportSize, cellsSize, cellsTextOf, SoundBook, Sound};
-ghost use Rattle.book_model.specs.Cells.{CellsBounded};
-ghost use Rattle.driver.specs.Reading.{withLine, unbroken, mostHeld, withTail, withBytes, progressAfter, stageAt, readingOf, AtStart, Running};
-ghost use Rattle.driver.specs.Printed.{printedAtEnd, printedWith, printedFor, ended, PrintsWhole};
+ghost use Rattle.book_model.specs.Calls.{stateAt, reportSize, cellsSize, Sound};
+ghost use Rattle.line_bytes.specs.LineBytes.{unbroken, mostHeld};
+ghost use Rattle.driver.specs.Reading.{withLine, withBytes, progressAfter, stageAt, readingOf, AtStart, Running};
+ghost use Rattle.driver.specs.Printed.{printedFor, ended, PrintsWhole};
 use book_model::Book;
 use cell_report::Cells;
 use house_index::Index;
+use line_bytes::Tail;
 use line_forms::Header;
 use loan_charge::charge::Exponentials;
 use loan_charge::credit::Rates;
-
-// So many bytes of a line not yet ended are held: beyond 240 a line is refused whatever they are.
-const MOST_HELD: usize = 241;
-
-// Room for them and for the newline that ends the line.
-const TAIL: usize = 242;
 
 // What the lines read so far gave: the refusal, 0 for none, the number of the line to be read or of the refused one, and the book.
 pub struct Progress {
@@ -37,14 +30,14 @@ pub struct Progress {
 pub struct Run {
     pub progress: Progress,
     pub held: usize,
-    pub tail: [u8; TAIL],
+    pub tail: Tail,
     pub read: usize,
 }
 
-fn no_bytes() -> [u8; TAIL]
+fn no_bytes() -> Tail
     ensures { λ r. ⌜ length r ≡ 242 ⌝ }
 {
-    [0; TAIL]
+    [0; line_bytes::TAIL]
 }
 
 // Before any byte is read: what stands is the value of a refused opening.
@@ -154,7 +147,7 @@ fn lines(
     let mut p = before;
     let mut i = 0;
     while i < size {
-        let end = newlines::line_end(bytes, i);
+        let end = line_bytes::newlines::line_end(bytes, i);
         if size <= end {
             return LinesRead {
                 progress: p,
@@ -168,34 +161,6 @@ fn lines(
         progress: p,
         rest: i,
     }
-}
-
-// A byte is added to a line not yet ended.
-fn keep(tail: &mut [u8], held: usize, byte: u8) -> usize
-    requires { ⌜ (held ≤ mostHeld) × (length (now tail) ≡ 242) ⌝ }
-    ensures equation { λ r. ⌜ take r (now (tail .exit)) ≡ withTail (take held (now (tail .entry))) (byte ∷ []) ⌝ }
-    ensures few { λ r. ⌜ r ≤ mostHeld ⌝ }
-{
-    if held < MOST_HELD {
-        tail[held] = byte;
-        return held + 1;
-    }
-    held
-}
-
-// Bytes are added to a line not yet ended.
-fn hold(tail: &mut [u8], held: usize, bytes: &[u8]) -> usize
-    requires { ⌜ (held ≤ mostHeld) × (length (now tail) ≡ 242) ⌝ }
-    ensures equation { λ r. ⌜ take r (now (tail .exit)) ≡ withTail (take held (now (tail .entry))) (now (bytes .entry)) ⌝ }
-    ensures few { λ r. ⌜ r ≤ mostHeld ⌝ }
-{
-    let mut n = held;
-    let mut i = 0;
-    while i < bytes.len() {
-        n = keep(tail, n, bytes[i]);
-        i += 1;
-    }
-    n
 }
 
 // The line that is held is ended, and read.
@@ -226,7 +191,7 @@ fn end_held(
 // Bytes are read from a place where a line begins; `read` counts them already.
 fn read_lines(
     p: Progress,
-    before: [u8; TAIL],
+    before: Tail,
     exps: &Exponentials,
     sheet: &[u64],
     rates: &mut Rates,
@@ -249,7 +214,7 @@ fn read_lines(
     let all = lines(p, exps, sheet, rates, cells, index, bytes);
     let rest = all.rest;
     let mut tail = before;
-    let held = hold(&mut tail, 0, &bytes[rest..size]);
+    let held = line_bytes::hold(&mut tail, 0, &bytes[rest..size]);
     let progress = all.progress;
     Run {
         progress,
@@ -284,8 +249,8 @@ pub fn step(
     if held == 0 {
         return read_lines(p, tail, exps, sheet, rates, cells, index, chunk, read);
     }
-    let end = newlines::line_end(chunk, 0);
-    let n = hold(&mut tail, held, &chunk[0..end]);
+    let end = line_bytes::newlines::line_end(chunk, 0);
+    let n = line_bytes::hold(&mut tail, held, &chunk[0..end]);
     if size <= end {
         return Run {
             progress: p,
@@ -307,49 +272,6 @@ pub fn step(
         &chunk[from..size],
         read,
     )
-}
-
-// Writes the table of cells.
-fn put_table(b: Book, cells: &Cells, out: &mut [u8]) -> usize
-    requires { ⌜ (tooFew (b .header) (b .sums .counts) ≡ false) × (cellsSize ≤ length (now out)) ⌝ }
-    ensures { λ r. ⌜ Written (now (out .entry)) (cellsTextOf (now (cells .entry))) r (now (out .exit)) ⌝ }
-{
-    let closed = book::close_cells(b, cells, out);
-    closed.length
-}
-
-// Closes a book, of which the line after the last would have this number: writes its report, and the table of cells where it is asked for.
-fn put_closing(b: Book, number: u64, cells: &Cells, asked: bool, out: &mut [u8]) -> usize
-    requires { ⌜ SoundBook b × CellsBounded (now cells) (4 * b .sums .counts .loans) × (reportSize + cellsSize ≤ length (now out)) ⌝ }
-    ensures { λ r. ⌜ Written (now (out .entry)) (printedAtEnd asked b (now (cells .entry)) number) r (now (out .exit)) ⌝ }
-{
-    let closed = book::close(b, out);
-    if closed.refusal != 0 {
-        return report::put_refusal(out, 6, number);
-    }
-    let at = closed.length;
-    if asked {
-        return at + put_table(b, cells, &mut out[at..]);
-    }
-    at
-}
-
-// Writes what is printed where the lines end.
-fn put_answer(p: Progress, cells: &Cells, asked: bool, out: &mut [u8]) -> usize
-    requires { ⌜ SoundBook (p .book) × CellsBounded (now cells) (4 * p .book .sums .counts .loans) × (reportSize + cellsSize ≤ length (now out)) ⌝ }
-    ensures { λ r.
-        ⌜ Written (now (out .entry)) (printedWith asked (p .refusal) (p .number) (p .book) (now (cells .entry))) r (now (out .exit)) ⌝ }
-{
-    let refusal = p.refusal;
-    let number = p.number;
-    if refusal != 0 {
-        return report::put_refusal(out, refusal, number);
-    }
-    if number == 1 {
-        return report::put_refusal(out, 2, 1);
-    }
-    let book = p.book;
-    put_closing(book, number, cells, asked, out)
 }
 
 // The end of the input: what is to be printed is written to the lent buffer, with the table of cells where it is asked for.
@@ -376,9 +298,11 @@ pub fn finish(
     let p = run.progress;
     let unended = run.held;
     if unended == 0 {
-        return put_answer(p, cells, asked, out);
+        let book = p.book;
+        return printing::put_answer(p.refusal, p.number, book, cells, asked, out);
     }
     let mut tail = run.tail;
     let last = end_held(p, &mut tail, unended, exps, sheet, rates, cells, index);
-    put_answer(last, cells, asked, out)
+    let book = last.book;
+    printing::put_answer(last.refusal, last.number, book, cells, asked, out)
 }

@@ -2,7 +2,7 @@
 use Prim.Native.Nat.{_≤_}
 use lib.ListN.{length}
 use borrow.Author.Needs.{needs}
-use Rattle.driver.proofs.Answers.{written-within}
+use Rattle.driver.proofs.Runs.{written-within}
 use Rattle.capital.proofs.print.Statement.{statement}
 use Rattle.capital.proofs.print.Tie as tie
 

@@ -8,8 +8,10 @@ use lib.Seq.{drop-length}
 use borrow.Author.Needs.{needs}
 use Rattle.loan_charge.specs.Tables.{exponentials}
 use Rattle.book_model.specs.Calls.{stateAt, Sound}
-use Rattle.driver.specs.Reading.{unbroken, withBytes, stageAt}
-use Rattle.driver.proofs.Bytes.{line-read, none-found}
+use Rattle.line_bytes.specs.LineBytes.{unbroken}
+use Rattle.line_bytes.proofs.FirstNewline.{none-found}
+use Rattle.driver.specs.Reading.{withBytes, stageAt}
+use Rattle.driver.proofs.Bytes.{line-read}
 use Rattle.driver.proofs.lines.Statement.{statement}
 use Rattle.driver.proofs.lines.Tie as tie
 

@@ -6,7 +6,7 @@ use borrow.Author.Needs.{needs}
 use Rattle.book_model.specs.Calls.{State, stateAt, emptyState, Sound}
 use Rattle.book_model.specs.Terms.{zeroHeader, refusedTerms}
 use Rattle.book_model.proofs.Feeding.{refused-sound}
-use Rattle.driver.specs.Reading.{unbroken}
+use Rattle.line_bytes.specs.LineBytes.{unbroken}
 use Rattle.driver.proofs.start.Statement.{statement}
 use Rattle.driver.proofs.start.Tie as tie
 

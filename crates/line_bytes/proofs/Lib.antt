@@ -1,0 +1,2 @@
+pub mod FirstNewline
+pub mod Tail
