@@ -15,7 +15,7 @@ import make_book
 
 ROOT = Path(__file__).resolve().parent.parent
 PROGRAM = ROOT / "target" / "bin" / "capital"
-LIMIT = 1680
+LIMIT = 1700
 FEW, MANY = 1_000, 3_000
 SEED = 1
 

@@ -2,7 +2,8 @@
 """Writes a book of many loans and other lines, the same for the same seed, with a header whose counts are right.
 
 The spread is that of a large insurer: balances around 250,000 dollars, loans from new to nearly paid off, one in
-forty without a score, scores mostly between 620 and 850, one in five with the supplement, loan to value mostly below 100%.
+forty without a score, scores mostly between 620 and 850 and seven of twenty of them fresh, so that the aged table serves, one in five
+with the supplement, loan to value mostly below 100%.
 First come the values of the house price index for every area and month. Six of ten loans were made in these months, so that they
 need them, one before, and three in December 2015 or later; loan to value is as the index has it.
 """
@@ -38,7 +39,12 @@ def made(source):
     return month, source.choices(AREAS, SHARES)[0]
 
 
-def loan(source, scored, month, area, index):
+def is_fresh(place):
+    """Whether the loan of this place, from 1 on, has a fresh score: so the header's count is known before its loans are."""
+    return 1 <= place % 20 <= 7
+
+
+def loan(source, place, month, area, index):
     balance = min(200_000_000, max(100_000, int(source.lognormvariate(17.0, 0.55))))
     # Value over balance: from just under water to several times the balance, as a loan is paid off.
     value = balance * source.choice((source.uniform(0.85, 1.3), source.uniform(1.0, 2.5), source.uniform(1.5, 8.0)))
@@ -46,9 +52,11 @@ def loan(source, scored, month, area, index):
         value *= index[area, month] / index[area, DECEMBER]
     months = source.choice((source.randrange(1, 481), source.randrange(180, 361), source.randrange(240, 301)))
     term = source.choice((source.randrange(1, 61), months, min(480, months + source.randrange(0, 60))))
-    if scored:
+    if place % 40:
         number = max(300, min(900, int(source.gauss(735, 65))))
-        score = b"%d %d" % (number, min(600, int(source.expovariate(1 / 30))))
+        # An age of 30 months in the mean: cut at 12 it has the spread of the fresh ones, and put after 12 that of the others.
+        age = int(source.expovariate(1 / 30))
+        score = b"%d %d" % (number, age % 13 if is_fresh(place) else min(600, 13 + age))
     else:
         score = b"none"
     sup = source.randrange(5) == 0
@@ -89,8 +97,8 @@ def other(source):
 def lines(seed, loans, others):
     """The header and its lines: the index, then the other lines scattered among the loans."""
     source, houses = random.Random(seed), random.Random(f"houses {seed}")
-    unscored = loans // 40
-    yield b"(book (loans %d) (unscored %d) (scores aged) (held %d))" % (loans, unscored, loans * 60_000)
+    fresh = sum(map(is_fresh, range(1, loans + 1)))
+    yield b"(book (loans %d) (unscored %d) (fresh %d) (held %d))" % (loans, loans // 40, fresh, loans * 60_000)
     index = prices(houses)
     yield from (b"(index %s %d %d)" % (*place, value) for place, value in index.items())
     places = set(source.sample(range(loans + others), others))
@@ -101,7 +109,7 @@ def lines(seed, loans, others):
         else:
             # Every fortieth loan is without a score: loans // 40 of them.
             seen += 1
-            yield loan(source, seen % 40 != 0, *made(houses), index)
+            yield loan(source, seen, *made(houses), index)
 
 
 def main():

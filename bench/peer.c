@@ -186,13 +186,14 @@ static double smaller(double x, double y) { return x < y ? x : y; }
 int main(void)
 {
     double loans = 0, total = 0, supplement = 0, rest = 0, moved = 0, equity = 0, aoci = 0, b = 0, c = 0;
-    double header_loans, unscored, held;
+    double header_loans, unscored, fresh, held;
     read_input();
     const char *p = input, *end = input + size;
     p = number(p, &header_loans);
     p = number(p, &unscored);
-    int aged = starts(p, ") (scores aged");
+    p = number(p, &fresh);
     p = number(p, &held);
+    int aged = 10 * fresh < 9 * header_loans;
     double no_score = 20 * unscored > header_loans ? 3.0 : 1.3;
     while (p < end) {
         p = strchr(p, '\n');

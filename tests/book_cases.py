@@ -50,7 +50,7 @@ CERTAIN = {b"c": _certain_report, b"t": _certain_table}
 
 def no_book():
     """What stands for a book before any opening, and after a refused one."""
-    return book.Book(0, 0, b"fresh", 0)
+    return book.Book(0, 0, 0, 0)
 
 
 def _closing(found, kind, size, text):
@@ -90,6 +90,9 @@ def answers(calls, texts=CERTAIN):
             yield _closing(open_book, kind, int(rest), texts[kind])
 
 
+KINDS = (book_runs.FRESH_SCORE, book_runs.AGED_SCORE, book_runs.NO_SCORE)
+
+
 def _is_certain(line, header, *lent, values=()):
     """Whether a loan's two numbers are certain under a header and index lines: without a sheet, and under each that is lent."""
     for sheet in (None, *lent):
@@ -102,10 +105,10 @@ def _is_certain(line, header, *lent, values=()):
     return True
 
 
-def _certain_loan(source, scored, header, *lent):
-    """A loan whose two numbers are certain under a header."""
+def _certain_loan(source, kind, header, *lent):
+    """A loan of a kind whose two numbers are certain under a header."""
     while True:
-        line = book_runs.loan_line(source, scored)
+        line = book_runs.loan_line(source, kind)
         if _is_certain(line, header, *lent):
             return line
 
@@ -135,9 +138,9 @@ def _refused_lines(source, open_book):
     set_already = source.sample(sorted(open_book.index.items()), min(1, len(open_book.index)))
     tried = [
         *(book_runs.index(*place, value) for place, first in set_already for value in (first, 7)),
-        book_runs.loan_line(source, True, book_runs.made(month, area)),
+        book_runs.loan_line(source, book_runs.FRESH_SCORE, book_runs.made(month, area)),
         b"x" * 241, b"", b"(claims 01)", book_runs.HEADER[:-1], b"(asset (amount 7) (factor 10001))",
-        book_runs.loan_line(source, True), book_runs.loan_line(source, False),
+        *(book_runs.loan_line(source, kind) for kind in KINDS),
         line_cases.random_line(source).replace(b"\n", b""),
     ]
     return [line for line in source.sample(tried, source.randrange(4)) if open_book.refusal(line)]
@@ -174,35 +177,36 @@ def _closings(kind=b"c"):
 
 def _stored_calls():
     source = random.Random(512)
-    header = b"(book (loans 3) (unscored 1) (scores aged) (held 1000))"
-    loans = [_certain_loan(source, scored, header) for scored in (True, True, False)]
+    header = book_runs.book_header(3, 1, 1, 1000)
+    loans = [_certain_loan(source, kind, header) for kind in KINDS]
     # Before any opening, and after each refusal of one: a book of an all-zero header.
     calls = _closings() + [b"s" + header]
     refused = _refused_headers(header)
     for line in refused:
         calls += [b"o" + header, b"f" + loans[0], b"o" + line, b"f" + loans[0], b"f(claims 1001)", b"c511", b"c512"]
-    # Fewer loans than the header's, or fewer without a score: 6 before 9, whatever the buffer.
+    # Fewer loans than the header's, fewer without a score or fewer fresh ones: 6 before 9, whatever the buffer.
     calls += [b"o" + header] + _closings()
     calls += _fed(*loans[:2]) + _closings()
     calls += _fed(loans[2]) + _closings()
     # Closing changes no book: lines go on being taken.
     calls += [b"f(equity -100000000000)"] + _closings() + [b"f(equity 100000000000)", b"f(b 7)"] + _closings()
-    calls += [b"o" + header] + _fed(loans[0]) * 3 + _closings()
+    calls += [b"o" + header] + _fed(loans[0]) * 3 + _fed(loans[1]) * 3 + _closings()
+    calls += [b"o" + header] + _fed(*loans[1:], loans[1]) + _closings()
     # The same lines in several orders, with refused lines between.
     others = [line for line in book_runs.OTHER_KINDS.split(b"\n") if line]
     for _ in range(4):
         calls += _feedings(source, header, loans + others) + [b"c512"]
-    return calls + _table_calls(source, header, loans) + _sheet_calls(source) + _index_calls(source)
+    return calls + _table_calls(source, header, loans) + _sheet_calls(source) + _index_calls(source) + _fresh_calls(source)
 
 
 def _refused_headers(header):
-    """Header lines that are refused with 1, 2, 7, 3 and 4; the header counts 3 loans."""
-    return b"x" * 241, b"", b"(claims 7)", header.replace(b"3", b"1000001"), header.replace(b"3", b"0")
+    """Header lines that are refused with 1, 2, 7, 3 and, by one count and by two together, 4; the header counts 3 loans, one of them unscored and one fresh."""
+    return b"x" * 241, b"", b"(claims 7)", header.replace(b"3", b"1000001"), header.replace(b"3", b"0"), header.replace(b"3", b"1")
 
 
 def _sheet_calls(source):
     """Calls under sheets of credit factors."""
-    header = b"(book (loans 3) (unscored 1) (scores aged) (held 1000))"
+    header = book_runs.book_header(3, 1, 1, 1000)
     return _rule_calls(header) + _refused_sheet_calls(source, header) + _charged_calls(source, header)
 
 
@@ -228,8 +232,8 @@ def _refused_sheet_calls(source, header):
     for sheet in (sheets.DISTINCT, sheets.OUTSIDE[0], sheets.LENGTHS[0]):
         calls.append(_lending(sheet))
         calls += [b"s" + refused for refused in _refused_headers(header)]
-    one = b"(book (loans 1) (unscored 0) (scores aged) (held 1000))"
-    line = b"f" + _certain_loan(source, True, one, sheets.DISTINCT)
+    one = book_runs.book_header(1, 0, 0, 1000)
+    line = b"f" + _certain_loan(source, book_runs.AGED_SCORE, one, sheets.DISTINCT)
     own = [*_opening(one, sheets.DISTINCT), line]
     for sheet in (sheets.LENGTHS[2], sheets.OUTSIDE[1], sheets.RISING[0, 0]):
         calls += [*own, *_opening(one, sheet), line, b"f(claims 1001)", b"c511", b"c512", b"t8192"]
@@ -239,28 +243,35 @@ def _refused_sheet_calls(source, header):
     return calls + [*own, *_opening(one, sheets.LENGTHS[0]), *_opening(one), line, b"c512"]
 
 
-def _scored(scores, sheet):
-    """A header, and a loan of each band whose numbers are certain under the sheet and under none, at every age column."""
-    header = b"(book (loans 11) (unscored 0) (scores %s) (held 0))" % scores
-    ages = (0, 13, 25, 37, 49, 61, 12, 24, 36, 48, 60)
-    loans = []
-    for lowest, age in zip((300, *range(600, 781, 20)), ages, strict=True):
-        lines = (book_runs.loan(20_000_000 + i, 22_000_000, b"%d %d" % (lowest + 19, age)) for i in range(1000))
-        loans.append(next(line for line in lines if _is_certain(line, header, sheet)))
-    return header, loans
+def _scored(ages, small, sheet):
+    """A header, and a loan of each band whose numbers are certain under the sheet and under none, of these ages; with so many small fresh ones."""
+    header = book_runs.book_header(11 + small, 0, sum(age <= 12 for age in ages) + small)
+    scores = [b"%d %d" % (lowest + 19, age) for lowest, age in zip((300, *range(600, 781, 20)), ages, strict=True)]
+    return header, [_certain_balance(score, sheet, header) for score in scores] + [SMALL] * small
+
+
+def _certain_balance(score, sheet, *headers):
+    """A loan with this score whose numbers are certain under each header, with the sheet and without."""
+    lines = (book_runs.loan(20_000_000 + i, 22_000_000, score) for i in range(1000))
+    return next(line for line in lines if all(_is_certain(line, header, sheet) for header in headers))
+
+
+SMALL = book_runs.SMALL_LOAN[:-1]
+# Of a loan in each band. With the first it takes so many small fresh loans for 90% fresh ones; the second holds every age column, and few are fresh.
+AGES = ((600, 0, 12, 0, 12, 7, 1, 13, 3, 25, 49), 29), ((0, 13, 25, 37, 49, 61, 12, 24, 36, 48, 60), 0)
 
 
 def _charged_calls(source, header):
-    """Books under a sheet: in fresh and aged books, beside the same book without one, and under a copy of the built-in table."""
+    """Books under a sheet: on the first column and on the aged table, beside the same book without one, and under a copy of the built-in table."""
     calls = []
-    for scores in (b"fresh", b"aged"):
-        scored, loans = _scored(scores, sheets.DISTINCT)
-        for sheet in (sheets.BUILT_IN, sheets.DISTINCT, None):
+    for ages, small in AGES:
+        scored, loans = _scored(ages, small, sheets.DISTINCT)
+        for sheet in (sheets.BUILT_IN, None, sheets.DISTINCT):
             calls += _opening(scored, sheet) + _fed(*loans) + [b"c512"]
-        calls += _opening(scored, sheets.DISTINCT) + _fed(*loans) + [b"t8192"]
+        calls.append(b"t8192")
     # Without a score nothing changes. Another sheet lent to nobody changes nothing in a book that is open.
-    unscored = b"f" + _certain_loan(source, False, header)
-    alone = header.replace(b"3", b"1")
+    unscored = b"f" + _certain_loan(source, book_runs.NO_SCORE, header)
+    alone = book_runs.book_header(1, 1, 0, 1000)
     calls += [*_opening(alone), unscored, b"c512", *_opening(alone, sheets.DISTINCT), unscored, b"c512"]
     calls += [*_opening(scored, sheets.DISTINCT), _lending(sheets.EQUAL), *_fed(*loans), _lending(()), b"c512", b"nx", b"c512"]
     # The same lines in two orders under one sheet, with refused lines between.
@@ -277,7 +288,7 @@ def _index_calls(source):
 
 def _indexed_loan():
     """A header that counts one loan, the two index lines that the loan needs, and the loan, whose numbers are certain."""
-    header = b"(book (loans 1) (unscored 0) (scores aged) (held 1000))"
+    header = book_runs.book_header(1, 0, 1, 1000)
     own, december = (book_runs.index(b"toronto", month, value) for month, value in ((201003, 9_000), (DECEMBER, 15_000)))
     return header, own, december, _certain_months(header, (own, december), 20_000_000, 14_000_000, book_runs.made(201003, b"toronto"))
 
@@ -323,7 +334,7 @@ def _place_calls():
     months = (FIRST, 201511, DECEMBER)
     values = [book_runs.index(area, month, 100 * i + 7 * j + 61) for i, area in enumerate(AREAS) for j, month in enumerate(months)]
     made = [book_runs.made(month, area) for i, area in enumerate(AREAS) for month in (months[i % 2], (200412, DECEMBER, 190001, 209912)[i % 4])]
-    header = b"(book (loans %d) (unscored 0) (scores aged) (held 0))" % len(made)
+    header = book_runs.book_header(len(made), 0, len(made))
     loans = [_certain_months(header, values, 20_000_000 + i, 19_000_000, since, sheets.DISTINCT) for i, since in enumerate(made)]
     calls = []
     for sheet in (None, sheets.DISTINCT):
@@ -338,7 +349,7 @@ def _column_calls():
     amounts = [(*row[0], since) for row in book_runs.amounts_by_index() for since in book_runs.LIMIT_PLACES]
     amounts += [(balance, value, book_runs.made(FIRST, area)) for balance in (1, 200_000_000) for value in (1, 10**10) for area, *_ in EXTREME]
     amounts.append((3, 1, book_runs.made(FIRST, b"hamilton")))
-    header = b"(book (loans %d) (unscored 0) (scores fresh) (held 0))" % len(amounts)
+    header = book_runs.book_header(len(amounts), 0, len(amounts))
     loans = [_certain_months(header, values, *amount) for amount in amounts]
     return _opening(header) + _fed(*values, *loans) + CLOSED
 
@@ -349,7 +360,7 @@ EXTREME = ((b"hamilton", 3, 10), (b"montreal", 1, 1), (b"quebec", 1, 1_000_000),
 
 def _order_calls(source):
     """Orders of lines that take different loans, and orders that take the same ones."""
-    header = b"(book (loans 2) (unscored 0) (scores fresh) (held 0))"
+    header = book_runs.book_header(2, 0, 2)
     set_values = (b"halifax", 200808, 11_100), (b"halifax", DECEMBER, 13_300), (b"other", DECEMBER, 7)
     values = [book_runs.index(*value) for value in set_values]
     amounts = (17_000_000, 200808), (16_000_000, 200412), (18_000_000, DECEMBER)
@@ -361,6 +372,86 @@ def _order_calls(source):
     for _ in range(3):
         calls += _feedings(source, header, [*values, *loans[:2]]) + CLOSED
     return calls
+
+
+def _fresh_calls(source):
+    """Calls around the count of fresh loans, and the table of credit factors that it chooses."""
+    return _count_calls() + _no_place_calls() + _choice_calls(source) + _edge_calls()
+
+
+def _small(*scores):
+    """Small loans with these scores; what each is charged is certain, whatever its factor."""
+    return [SMALL.replace(b"900 0", b"none" if age is None else b"900 %d" % age) for age in scores]
+
+
+def _counted_book(counts, *scores):
+    """The calls of a book with these counts that is fed small loans, and closed for the report."""
+    return _opening(book_runs.book_header(*counts)) + _fed(*_small(*scores)) + CLOSED[:1]
+
+
+def _count_calls():
+    """The ages that are fresh; each of the counts reached, one short and passed by one, alone; loans that are not fresh take any place."""
+    calls = []
+    for age in (0, 12, 13, 600):
+        for fresh in (0, 1):
+            calls += _counted_book((1, 0, fresh), age)
+    # A fresh loan too many though loans are open, and one that is not fresh in its place.
+    calls += _counted_book((4, 1, 1), 12, 0, 12, 13, 600, None, 13) + CLOSED[1:]
+    # Loans, those without a score and fresh ones wanting alone: 6 before 9, whatever the buffer.
+    for scores in ((12, None), (12, 13, 13), (13, None, 13)):
+        calls += _counted_book((3, 1, 1), *scores) + [b"c0", b"c511", b"c640", b"t8191", b"t8192"]
+    # Those that are not fresh are limited by the loans alone; then no place is left for the others.
+    calls += _counted_book((2, 1, 1), 13, 600, 13, 12, None)
+    # Without a score a loan is never fresh.
+    for counts in ((1, 1, 0), (1, 0, 1), (2, 1, 1)):
+        calls += _counted_book(counts, None, None, 7)
+    return calls + _counted_book((0, 0, 0), 0, None, 13)
+
+
+def _no_place_calls():
+    """What is tested before 5 and after it, for a fresh loan too many; the book after an opening that is refused by its counts."""
+    fresh, aged, unscored = _small(12, 13, None)
+    _, own, december, line = _indexed_loan()
+    old = line.replace(b"720 7", b"720 13")
+    calls = _opening(book_runs.book_header(2, 0, 1)) + _fed(fresh, line, fresh.replace(b"bal 1", b"bal 0"), b"x" * 241, old, own, december, line, aged) + CLOSED
+    calls += _opening(book_runs.book_header(1, 0, 0)) + _fed(line, old, own, line, old, december, line)
+    for counts in ((3, 2, 2), (3, 0, 4), (3, 10**14 - 1, 10**14 - 1), (10**6, 0, 10**14 - 1)):
+        calls += _opening(book_runs.book_header(1, 0, 1)) + _fed(fresh)
+        calls += _opening(book_runs.book_header(*counts)) + _fed(fresh, aged, unscored) + CLOSED[:1]
+    return calls + CLOSED[1:]
+
+
+def _choice_calls(source):
+    """The header's counts choose the table, not the lines taken: with 9 of 10 fresh the first column, with 8 the whole table.
+
+    Closed in between, when all lines so far are fresh, and when none is.
+    """
+    nine, eight = (book_runs.book_header(10, 0, fresh, 1000) for fresh in (9, 8))
+    aged = _certain_balance(b"745 40", sheets.DISTINCT, nine, eight)
+    fresh = [_certain_balance(b"765 12", sheets.DISTINCT, nine, eight), *_small(0, 12, 0, 12, 0, 12, 0)]
+    calls = []
+    for header, last in ((nine, 12), (eight, 13)):
+        lines = [*fresh, *_small(last)]
+        for sheet in (None, sheets.DISTINCT):
+            calls += _opening(header, sheet) + _fed(aged) + CLOSED + _fed(*lines) + CLOSED
+        calls += _opening(header) + _fed(*fresh) + CLOSED + _fed(lines[-1], aged) + CLOSED
+        calls += _feedings(source, header, [aged, *lines]) + CLOSED
+    return calls
+
+
+def _edge_calls():
+    """Just as many fresh loans as the first column asks for, and one fewer; and 9 of 11 with a loan without a score, which counts among the 11 too."""
+    calls = []
+    for loans in (1, 2, 9, 11):
+        least = -(-9 * loans // 10)
+        for fresh in (least, least - 1):
+            header = book_runs.book_header(loans, 0, fresh)
+            lines = _small(*[12] * fresh, *[13] * (loans - fresh))
+            if fresh < loans:
+                lines[-1] = _certain_balance(b"785 61", sheets.DISTINCT, header)
+            calls += _opening(header) + _fed(*lines) + CLOSED[:1]
+    header = book_runs.book_header(11, 1, 9)
+    return calls + _opening(header) + _fed(_certain_balance(b"785 61", sheets.DISTINCT, header), *_small(None, *[12] * 9)) + CLOSED[:1]
 
 
 def _table_calls(source, header, loans):
@@ -375,8 +466,8 @@ def _table_calls(source, header, loans):
     # A refused opening leaves no loan.
     calls += [b"o" + header, b"f" + loans[0], b"o(claims 7)", b"t8192", b"f" + loans[0], b"t8192"]
     # The limits of the columns, in two orders with refused lines between.
-    many = b"(book (loans %d) (unscored 0) (scores fresh) (held 0))"
-    many %= len(list(book_runs.limit_amounts())) * 3
+    count = len(list(book_runs.limit_amounts())) * 3
+    many = book_runs.book_header(count, 0, count)
     limits = list(_limit_loans(many))
     for _ in range(2):
         calls += _feedings(source, many, limits) + [b"t8191", b"t8192"]

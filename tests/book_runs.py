@@ -11,6 +11,7 @@ under a copy of the built-in table. Besides, the program is run with an input th
 write that fails, with files that are no sheet, and with other words.
 """
 import argparse
+import collections
 import itertools
 import random
 import re
@@ -26,6 +27,7 @@ import sheets
 from reference import book, cells, forms, house_index
 from reference.forms import AREAS
 from reference.house_index import DECEMBER, FIRST
+from reference.loan import is_fresh
 
 CELLS = "cells"  # the word with which the program prints the table too
 SHEET = "sheet"  # the word before the file of a sheet of credit factors
@@ -33,18 +35,25 @@ LOAN_DISTANCE = Fraction(105, 100)  # of a loan's numbers from the exact ones, i
 PER_LOAN, BESIDES = 3, 3  # demand 3: the required amount exceeds the exact one by less than this
 
 KEPT = b"(from 201512) (area other)"  # of a loan whose value stays as it is
-# A loan of next to nothing, more than 0: its total number can only be 1, its supplement is 0.
+# A loan of next to nothing, more than 0: its total number can only be 1, its supplement is 0. Its score is fresh.
 SMALL_LOAN = b"(loan (bal 1) (val 10000000000) (amort 480) (term 480) (score 900 0) (sup 0) %s)\n" % KEPT
+SMALL_AGED = SMALL_LOAN.replace(b"900 0", b"900 13")
 SMALL_TOTAL = 1
 
 
+def book_header(loans, unscored, fresh, held=0):
+    return b"(book (loans %d) (unscored %d) (fresh %d) (held %d))" % (loans, unscored, fresh, held)
+
+
 def _header(loans, unscored=0):
-    return b"(book (loans %d) (unscored %d) (scores aged) (held 0))\n" % (loans, unscored)
+    """The header line of a book whose scores are all fresh."""
+    return book_header(loans, unscored, max(loans - unscored, 0)) + b"\n"
 
 
-HEADER = b"(book (loans 0) (unscored 0) (scores fresh) (held 0))\n"
+HEADER = book_header(0, 0, 0) + b"\n"
 LOAN = b"(loan (bal 7) (val 7) (amort 7) (term 7) (score 720 7) (sup 1) %s)\n" % KEPT
 UNSCORED = LOAN.replace(b"720 7", b"none")
+AGED = LOAN.replace(b"720 7", b"720 13")
 OUT_OF_RANGE = UNSCORED.replace(b"bal 7", b"bal 0")
 OTHER_KINDS = (
     b"(policy (class home) (prem 7) (term 300) (done 5))\n(policy (class multi) (prem 7) (term 300) (done 5))\n"
@@ -93,10 +102,21 @@ def index(area, month, value):
     return b"(index %s %d %d)" % (area, month, value)
 
 
-def _book_of(loans, scores=b"aged"):
-    """The lines of a book that has these loans."""
-    unscored = sum(b"(score none)" in line for line in loans)
-    return [b"(book (loans %d) (unscored %d) (scores %s) (held 0))" % (len(loans), unscored, scores), *loans]
+def counted(loans):
+    """How many loans there are, how many without a score, and how many with a fresh one."""
+    scores = [book.loan_values(forms.read_feeding(line)).score for line in loans]
+    return len(scores), scores.count(None), sum(map(is_fresh, scores))
+
+
+def _book_of(loans):
+    """The lines of a book that has these loans; their scores say which table of credit factors serves."""
+    return [book_header(*counted(loans)), *loans]
+
+
+def with_fresh(loans):
+    """Loans with as many small ones besides, all fresh, as it takes for exactly 90% fresh ones: then the first column serves."""
+    count, _, fresh = counted(loans)
+    return [*loans, *[SMALL_LOAN[:-1]] * max(9 * (count - fresh) - fresh, 0)]
 
 
 def limit_amounts():
@@ -108,6 +128,7 @@ def limit_amounts():
             yield [(balance, value), (balance - 1, value), (balance + 1, value), (balance, value - 1), (balance, value + 1)]
 
 
+AGES = (0, 12, 13, 24, 25, 36, 37, 48, 49, 60, 61, 600)  # both ends of each age column of the credit factors
 # A balance and a value of each column.
 COLUMNS = ((52_000, 80_001), (64_000, 80_001), (90_000, 100_000), (94_999, 100_000), (200_000_000, 199_999_900))
 
@@ -123,9 +144,10 @@ def _cell_books():
     yield from (_book_of([loan(*amounts) for amounts in row]) for row in limit_amounts())
     # A balance above the value: in the charge the property counts as worth the balance, in the table it does not.
     yield _book_of([loan(*amounts) for amounts in ((7, 7), (8, 7), (7, 1), (200_000_000, 200_000_000), (200_000_000, 1), (1, 10**10))])
-    # The bands' ends. The age of a score and the header's column of credit factors move the charge, not the band.
-    for scores in (b"fresh", b"aged"):
-        yield _book_of([loan(10_000_000 + score, 13_000_000, b"%d %d" % (score, age)) for score in _band_ends() for age in (0, 13, 600)], scores)
+    # The bands' ends. The age of a score and the table that serves move the charge, not the band.
+    ends = [loan(10_000_000 + score, 13_000_000, b"%d %d" % (score, age)) for score in _band_ends() for age in (0, 13, 600)]
+    yield _book_of(ends)
+    yield _book_of(with_fresh(ends))
     # Loans without a score in every column, at 3.0 and at 1.3.
     unscored = [loan(*amounts, b"none") for amounts in COLUMNS]
     yield _book_of(unscored)
@@ -235,18 +257,85 @@ def _same_prints():
         _with_index([(b"quebec", FIRST, own), (b"quebec", DECEMBER, december)], [loan(15_000_000, value, since=made(FIRST, b"quebec"))])
         for value, own, december in found
     ]
+    # On the first column no age counts, on the aged table none within its column.
+    nine = [SMALL_LOAN[:-1]] * 9
+    yield [_book_of([*nine, loan(15_000_000, 20_000_000, b"745 %d" % age)]) for age in AGES]
+    for first, last in zip(AGES[2::2], AGES[3::2]):
+        yield [_book_of([*nine[1:], *(loan(15_000_000, 20_000_000, b"745 %d" % age) for age in ages)]) for ages in ((first, first), (first, last), (last, first))]
     header, *loans = _book_of([plain, plain])
     others = OTHER_KINDS.splitlines()
     values = [index(area, month, 1_000_000) for area in AREAS for month in (FIRST, INDEXED[-1], DECEMBER)]
     yield [[header, *loans, *others], [header, *values, *loans, *others], [header, *loans, *others, *values]]
 
 
+def _table_books():
+    """Loans of every band and age column, each as the lines of a book: with no fresh loan, with some, and with exactly 90%."""
+    every = [loan(10_000_000 + score, 13_000_000, b"%d %d" % (score, age)) for score in _band_ends()[::2] for age in AGES]
+    yield _book_of([line for line in every if counted([line])[2] == 0])
+    yield _book_of(every)
+    yield _book_of(with_fresh(every))
+
+
+# How many loans a book has; the first column serves from 1, 2, 9, 9, 10, 18, 18, 19, 90 and 90 fresh ones on.
+EDGES = (1, 2, 9, 10, 11, 19, 20, 21, 99, 100)
+
+
+def _fresh_books():
+    """Books with just as many fresh loans as the first column asks for, and with one fewer; loans without a score are not fresh."""
+    for loans in EDGES:
+        least = -(-9 * loans // 10)
+        for fresh in (least, least - 1):
+            lines = [LOAN[:-1].replace(b"720 7", b"%d %d" % (300 + i, i % 13)) for i in range(fresh)]
+            lines += [loan(20_000_000 + i, 21_000_000, b"%d %d" % (790 - 25 * (i % 4), 13 + 12 * i)) for i in range(loans - fresh)]
+            yield _book_of(lines)
+            if fresh < loans:
+                yield _book_of([*lines[:-1], loan(20_000_000, 21_000_000, b"none")])
+
+
+def _fresh_headers():
+    """Headers with counts around each other, some with a number out of its range; headers of other forms. Alone, those that count loans are refused too, with 6."""
+    most, digits = 1_000_000, 10**14 - 1
+    for loans in (0, 10, most, most + 1):
+        for unscored, fresh in ((0, loans), (0, loans + 1), (loans, 0), (loans + 1, 0), (loans, 1), (1, loans), (loans // 2, loans - loans // 2)):
+            yield book_header(loans, unscored, fresh)
+            yield book_header(loans, unscored, fresh, 10**13 + 1)
+        for unscored, fresh in ((0, digits), (digits, 0), (digits, digits), (1, digits), (digits, 1)):
+            yield book_header(loans, unscored, fresh)
+    plain = book_header(0, 0, 0)
+    for field in (b"(scores fresh)", b"(scores aged)", b"(scores 0)", b"(fresh)", b"(fresh )", b"(fresh none)", b"(fresh 01)", b"(fresh 0) (fresh 0)", b"(fresh 0) (scores fresh)"):
+        yield plain.replace(b"(fresh 0)", field)
+    yield plain.replace(b"(unscored 0) (fresh 0)", b"(fresh 0) (unscored 0)")
+    yield plain.replace(b" (fresh 0)", b"")
+
+
+def _fresh_inputs():
+    """Inputs with loans on both sides of the age that is fresh: most are refused with 5 or 6."""
+    yield from ([line] for line in _fresh_headers())
+    fresh, aged, unscored = LOAN[:-1], AGED[:-1], UNSCORED[:-1]
+    for age in (0, 11, 12, 13, 14, 600):
+        for count in (0, 1):
+            yield [book_header(1, 0, count), fresh.replace(b"720 7", b"720 %d" % age)]
+    # Every row of up to one loan too many, under headers with a place for each kind, and with places of one kind alone.
+    for counts in ((3, 1, 1), (2, 0, 1), (2, 1, 1), (2, 0, 0), (2, 0, 2), (2, 2, 0), (1, 0, 0)):
+        for length in range(counts[0] + 2):
+            for lines in itertools.product((fresh, aged, unscored), repeat=length):
+                yield [book_header(*counts), *lines]
+    # 1, 2, 7 and 3 before 5, and 5 before 12: of a fresh loan too many, though other loans are still to come.
+    lacking = loan(7, 7, since=made(FIRST))
+    for line in (b"x" * 241, b"x", HEADER[:-1], fresh.replace(b"bal 7", b"bal 0"), lacking, lacking.replace(b"720 7", b"720 13")):
+        yield [book_header(3, 0, 1), fresh, line, aged, aged]
+        yield [book_header(3, 0, 0), line, aged, aged]
+    # The header alone says which table serves: lines that fit the other table end in 6.
+    ten = [SMALL_LOAN[:-1]] * 9 + [loan(20_000_000, 21_000_000, b"790 61")]
+    yield [book_header(10, 0, 8), *ten]
+    yield [book_header(10, 0, 10), *ten]
+    yield [book_header(11, 0, 9), *ten]
+
+
 def _sheet_books():
     """Books that are not refused, each as its lines and the sheet under which they are charged."""
-    ages = (0, 12, 13, 24, 25, 36, 37, 48, 49, 60, 61, 600)
-    every = [loan(10_000_000 + score, 13_000_000, b"%d %d" % (score, age)) for score in _band_ends()[::2] for age in ages]
-    for scores in (b"fresh", b"aged"):
-        yield _book_of(every, scores), sheets.DISTINCT
+    for lines in _table_books():
+        yield lines, sheets.DISTINCT
     # At 0.01 and 3.00 throughout: loans of every size, some charged less than 0. No score: 1.3 or 3.0 under any sheet.
     amounts = [pair for row in limit_amounts() for pair in row[:2]]
     mixed = [loan(*pair, b"%d 7" % (300 + 25 * i), 1 + 20 * i) for i, pair in enumerate(amounts)]
@@ -294,7 +383,7 @@ FIXED = (
     b"(claims 1)\n",
     HEADER + HEADER,
     HEADER + b"(asset (amount 100000) (factor 25))\n(claims 1001)\n(equity 1000)\n(c 100)\n",
-    # the header's counts: reached, one short, passed by one
+    # the header's counts: reached, one short, passed by one; `_fresh_inputs` has loans that are not fresh besides
     _header(0, 1),
     _header(1_000_000, 1_000_000),
     _header(1_000_001),
@@ -351,15 +440,25 @@ def _valid_line(source, kind):
             return line
 
 
-def loan_line(source, scored, since=KEPT):
+FRESH_SCORE, AGED_SCORE, NO_SCORE = range(3)  # what a loan counts as
+
+
+def _random_score(source, kind):
+    """The score of a loan that counts as fresh, as aged, or as one without."""
+    if kind == NO_SCORE:
+        return b"none"
+    ages = (0, 12, source.randrange(13)) if kind == FRESH_SCORE else (*AGES[2:], source.randrange(13, 601))
+    return b"%d %d" % (source.choice((300, 900, *(source.randrange(300, 901) for _ in range(6)))), source.choice(ages))
+
+
+def loan_line(source, kind, since=KEPT):
     """A loan of an ordinary size, or one with any numbers in range."""
+    score = _random_score(source, kind)
     if source.randrange(3) == 0:
-        line = _valid_line(source, "loan" if scored else "loan_unscored")
+        line = _valid_line(source, "loan_unscored").replace(b"none", score)
         return line[: line.index(b"(from ")] + since + b")"
     balance = source.randrange(1, 200_000_001)
     value = min(balance * source.randrange(60, 320) // 100 + 1, 10**10)
-    age = source.choice((0, 12, 13, 24, 25, 36, 37, 48, 49, 60, 61, 600))
-    score = b"%d %d" % (source.randrange(300, 901), age) if scored else b"none"
     return b"(loan (bal %d) (val %d) (amort %d) (term %d) (score %s) (sup %d) %s)" % (
         balance, value, source.randrange(1, 481), source.choice((1, 60, 61, 480)), score, source.randrange(2), since,
     )
@@ -401,19 +500,27 @@ def another_order(source, lines):
     return [line for _, line in sorted(timed)]
 
 
+def _random_counts(source):
+    """Loans, how many without a score and how many fresh: as often just enough for the first column, or one fewer, as any number."""
+    loans = source.choice((0, 1, 2, 5, 10, 19, 20, 21, 100, source.randrange(22, 130)))
+    unscored = min(loans, source.choice((0, 0, 1, 2, loans // 20, loans // 20 + 1)))
+    least, most = -(-9 * loans // 10), loans - unscored
+    fresh = source.choice((least, least, least - 1, most, most, source.randrange(most + 1), source.randrange(most + 1)))
+    return loans, unscored, max(0, min(fresh, most))
+
+
 def whole_book(source):
     """A header and lines that fit it."""
-    loans = source.choice((0, 1, 2, 5, 19, 20, 21, source.randrange(22, 130)))
-    unscored = min(loans, source.choice((0, 1, 2, loans // 20, loans // 20 + 1)))
+    loans, unscored, fresh = _random_counts(source)
     places = [random_place(source) for _ in range(source.choice((0, 1, 3, 8)))]
     lines = _index_lines(source, places)
-    lines += [loan_line(source, i >= unscored, _random_since(source, places)) for i in range(loans)]
+    kinds = [NO_SCORE] * unscored + [FRESH_SCORE] * fresh + [AGED_SCORE] * (loans - unscored - fresh)
+    lines += [loan_line(source, kind, _random_since(source, places)) for kind in kinds]
     others = ["policy", "deriv", "asset", "claims", "lossc", "stated", "equity", "aoci", "b", "c"]
     lines += [_valid_line(source, source.choice(others)) for _ in range(source.randrange(12))]
     lines = another_order(source, lines)
     held = source.choice((0, 0, 1, 10**6, 10**9, 10**13))
-    scores = source.choice((b"fresh", b"aged"))
-    return [b"(book (loans %d) (unscored %d) (scores %s) (held %d))" % (loans, unscored, scores, held)] + lines
+    return [book_header(loans, unscored, fresh, held)] + lines
 
 
 def _index_damaged(source, lines):
@@ -430,10 +537,26 @@ def _index_damaged(source, lines):
     return lines
 
 
+def _count_damaged(source, lines):
+    """With a count of the header one more or one less, or with a score that is fresh no longer, or fresh now, or gone."""
+    scored = [i for i, line in enumerate(lines) if re.search(rb"\(score [0-9]", line)]
+    if scored and source.randrange(2):
+        i = source.choice(scored)
+        lines[i] = re.sub(rb"\(score .*?\)", b"(score %s)" % source.choice((b"720 12", b"720 13", b"none")), lines[i])
+    else:
+        counts = [int(number) for number in re.findall(rb"[0-9]+", lines[0])]
+        i = source.randrange(3)
+        counts[i] = max(0, counts[i] + source.choice((-1, 1)))
+        lines[0] = book_header(*counts)
+    return lines
+
+
 def _damaged(source, lines):
     lines = list(lines)
     if source.randrange(2) and any(line.startswith(b"(index ") for line in lines):
         return _index_damaged(source, lines)
+    if source.randrange(3) == 0:
+        return _count_damaged(source, lines)
     i = source.randrange(len(lines))
     kind = source.randrange(6)
     if kind == 0:
@@ -545,35 +668,42 @@ def outcome(run, data):
     return wrong, report, with_cells
 
 
-def alone(found, line):
-    """The input of a book that holds one loan of a book, with the same credit factor and index values; and how many small loans besides.
+def _small_loans(found, score):
+    """How many small loans it takes beside one with this score for the same credit factor as in a book.
 
-    Without a score the factor is 1.3 only for one loan of 20 or more.
+    Without a score the factor is 1.3 only for one loan of 20 or more. With an aged score nine fresh ones bring the first column,
+    with a fresh score one that is not fresh brings the aged table.
     """
-    scores = b"aged" if found.aged else b"fresh"
-    unscored = b"(score none)" in line
-    small = 19 if unscored and 20 * found.unscored <= found.loans else 0
-    header = b"(book (loans %d) (unscored %d) (scores %s) (held 0))\n" % (1 + small, unscored, scores)
-    needed = house_index.needed(book.loan_values(forms.read_feeding(line)))
-    values = b"".join(index(*place, found.index[place]) + b"\n" for place in needed)
-    return header + values + line + b"\n" + SMALL_LOAN * small, small
+    if score is None:
+        return 19 if 20 * found.unscored <= found.loans else 0
+    if is_fresh(score) == found.aged:
+        return 1 if found.aged else 9
+    return 0
+
+
+def alone(found, line):
+    """The input of a book that holds one loan of a book, on the same table and with the same index values; and how many small loans besides."""
+    said = book.loan_values(forms.read_feeding(line))
+    small = _small_loans(found, said.score)
+    header, *loans = _book_of([line] + [(SMALL_AGED if found.aged else SMALL_LOAN)[:-1]] * small)
+    values = [index(*place, found.index[place]) for place in house_index.needed(said)]
+    return b"\n".join([header, *values, *loans]), small
 
 
 def sums_alone(run, lines):
     """The sums of the two numbers that each loan has alone, and the first in each cell; or what is wrong with a loan."""
     found = book.run(b"\n".join(lines), run.sheet)
     totals, supplement = [], 0
-    for line in lines[1:]:
-        if not line.startswith(b"(loan "):
-            continue
+    times = collections.Counter(line for line in lines[1:] if line.startswith(b"(loan "))  # equal lines are run once
+    for line, count in times.items():
         data, small = alone(found, line)
         printed = run(data)
         wrong = problem(book.run(data, run.sheet), printed)
         if wrong is not None:
             return f"of the loan {line!r} alone: {wrong}"
         numbers = sums_of(printed)
-        totals.append((forms.read_feeding(line), numbers[0] - small * SMALL_TOTAL))
-        supplement += numbers[1]
+        totals.append((forms.read_feeding(line), count * (numbers[0] - small * SMALL_TOTAL)))
+        supplement += count * numbers[1]
     return sum(total for _, total in totals), supplement, cells.by_cell(found, totals)
 
 
@@ -761,7 +891,8 @@ def fixed_results(run):
     yield from given_results(run, FIXED)
     yield from (whole_result(run, source, lines) for lines in _cell_books())
     yield from (whole_result(run, source, lines) for lines in _index_books())
-    yield from given_results(run, (_joined(source, lines) for lines in _index_inputs()))
+    yield from (whole_result(run, source, lines) for lines in (*_table_books(), *_fresh_books()))
+    yield from given_results(run, (_joined(source, lines) for lines in (*_index_inputs(), *_fresh_inputs())))
     yield from same_results(run, _same_prints())
     yield from (whole_result(run.under(sheet), source, lines) for lines, sheet in _sheet_books())
     for data, sheet in _sheet_inputs():

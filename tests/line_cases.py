@@ -20,8 +20,7 @@ NUMBERS = 9
 # A form as a list of fields; each field is text, or a range of a number or of a month, or a choice of words.
 FIELDS = {
     "book": (
-        b"(book (loans ", (0, 1_000_000), b") (unscored ", (0, 1), b") (scores ", (b"fresh", b"aged"), b") (held ",
-        (0, 10**13), b"))",
+        b"(book (loans ", (0, 1_000_000), b") (unscored ", (0, 1), b") (fresh ", (0, 1), b") (held ", (0, 10**13), b"))",
     ),
     "loan": (
         b"(loan (bal ", (1, 200_000_000), b") (val ", (1, 10**10), b") (amort ", (1, 480), b") (term ", (1, 480),
@@ -83,8 +82,6 @@ def numbers_of(form):
         found = (CLASSES.index(v[0]),) + v[1:]
     elif form.kind == "deriv":
         found = (DERIVATIVES.index(v[0]),) + _signed(v[1]) + v[2:]
-    elif form.kind == "book":
-        found = v[:2] + (int(v[2] == b"aged"),) + v[3:]
     elif form.kind in AMOUNTS:
         found = (AMOUNTS.index(form.kind),) + _signed(v[0])
     else:
@@ -170,14 +167,40 @@ def _index_lines():
             yield ordinary.replace(b"(from 201512) (area calgary)", b"(from %d) (area %s)" % (month, area))
 
 
+def _header(loans, unscored, fresh, held=0):
+    return b"(book (loans %d) (unscored %d) (fresh %d) (held %d))" % (loans, unscored, fresh, held)
+
+
 def _headers():
-    """Loans and unscored around each other: refusals 3 and 4 in order."""
-    most = 10**6
-    counts = ((0, 0), (0, 1), (1, 1), (1, 2), (20, 21), (most, most), (most, most + 1), (most + 1, 0), (most + 1, 10**7))
-    for loans, unscored in counts + ((5, 10**14 - 1),):
-        for held in (0, 10**13, 10**13 + 1):
-            for scores in (b"fresh", b"aged"):
-                yield b"(book (loans %d) (unscored %d) (scores %s) (held %d))" % (loans, unscored, scores, held)
+    """Loans, unscored and fresh around each other: refusals 3 and 4 in order. Neither unscored nor fresh has a range of its own."""
+    most, digits = 10**6, 10**14 - 1
+    for loans in (0, 1, 5, 20, most - 1, most, most + 1):
+        for unscored in (0, 1, loans // 2, loans - 1, loans, loans + 1, digits - loans, digits):
+            for fresh in (0, 1, loans - unscored - 1, loans - unscored, loans - unscored + 1, loans, loans + 1, digits - unscored, digits):
+                if unscored >= 0 and fresh >= 0:
+                    yield from (_header(loans, unscored, fresh, held) for held in (0, 10**13, 10**13 + 1))
+    # Around 90%, and numbers that are small again in 32 or 64 bits.
+    for loans, least in ((0, 0), (1, 1), (2, 2), (9, 9), (10, 9), (11, 10), (99, 90), (100, 90), (999_999, 900_000), (most, 900_000)):
+        yield from (_header(loans, 0, fresh) for fresh in (least - 1, least, least + 1) if fresh >= 0)
+    for high in (2**32, 2**33, 2**45):
+        yield from (_header(10, *counts) for counts in ((high, 9), (1, high + 9), (high // 2, high // 2), (high - 1, 1), (1, high - 1)))
+
+
+def _header_shapes():
+    """Headers of other forms: the old one, with the field for fresh in other words, in other orders, left out, doubled, and with numbers that are none."""
+    parts = [b"(loans 10)", b"(unscored 1)", b"(fresh 9)", b"(held 7)"]
+    for order in itertools.permutations(parts):
+        yield b"(book " + b" ".join(order) + b")"
+    for i in range(len(parts)):
+        yield b"(book " + b" ".join(parts[:i] + parts[i + 1 :]) + b")"
+        yield b"(book " + b" ".join(parts[: i + 1] + parts[i:]) + b")"
+    others = (
+        b"(scores fresh)", b"(scores aged)", b"(scores 9)", b"(scores fresh|aged)", b"(fresh)", b"(fresh )", b"(fresh none)", b"(fresh fresh)",
+        b"(fresh aged)", b"(fresh 09)", b"(fresh 9 9)", b"(fresh -9)", b"(fresh 9%)", b"(freshs 9)", b"(fres 9)", b"(Fresh 9)", b"(aged 1)", b"fresh 9",
+        b"(scores fresh) (fresh 9)", b"(fresh 9) (scores fresh)", b"(scores (fresh 9))", b"(fresh (9))", b"9",
+    )
+    for text in others:
+        yield b"(book (loans 10) (unscored 1) %s (held 7))" % text
 
 
 def _bytes(source):
@@ -263,7 +286,7 @@ def random_line(source):
 def stored_files():
     source = random.Random(240)
     random_lines = (random_line(source) for _ in range(1200))
-    lines = itertools.chain(_ranges(), _headers(), _index_lines(), _shapes(), _bytes(source), random_lines)
+    lines = itertools.chain(_ranges(), _headers(), _header_shapes(), _index_lines(), _shapes(), _bytes(source), random_lines)
     return stored.case_files(case(line) for line in dict.fromkeys(lines))
 
 

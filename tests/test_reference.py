@@ -55,7 +55,7 @@ class Examples(unittest.TestCase):
 
     def test_12_report(self):
         found = book.run(
-            b"(book (loans 0) (unscored 0) (scores fresh) (held 0))\n"
+            b"(book (loans 0) (unscored 0) (fresh 0) (held 0))\n"
             b"(asset (amount 100000) (factor 25))\n(claims 1001)\n(equity 1000)\n(c 100)\n"
         )
         self.assertEqual(
@@ -99,7 +99,7 @@ class Exponential(unittest.TestCase):
 
 class Forms(unittest.TestCase):
     def test_order_of_refusals(self):
-        header = b"(book (loans 1000001) (unscored 2000000) (scores aged) (held 0))"
+        header = b"(book (loans 1000001) (unscored 2000000) (fresh 0) (held 0))"
         self.assertEqual(forms.read_opening(header), 3)
         self.assertEqual(forms.read_feeding(header), 7)
         self.assertEqual(forms.read_opening(b"(claims 99999999999999)"), 7)
@@ -117,7 +117,7 @@ def fed(header, *lines):
 
 
 class HouseIndex(unittest.TestCase):
-    HEADER = b"(book (loans 3) (unscored 1) (scores aged) (held 0))"
+    HEADER = b"(book (loans 4) (unscored 1) (fresh 3) (held 0))"
     OWN, DECEMBER = book_runs.index(b"toronto", 201003, 9000), book_runs.index(b"toronto", 201512, 15000)
     LOAN = book_runs.loan(700, 100, since=book_runs.made(201003, b"toronto"))
 
@@ -200,8 +200,8 @@ class HouseIndex(unittest.TestCase):
         self.assertEqual(self.refusal(self.OWN, self.OWN.replace(b"201003", b"201004")), 0)
 
     def test_order_of_refusals(self):
-        none = b"(book (loans 0) (unscored 0) (scores aged) (held 0))"
-        unscored = b"(book (loans 1) (unscored 0) (scores aged) (held 0))"
+        none = b"(book (loans 0) (unscored 0) (fresh 0) (held 0))"
+        unscored = b"(book (loans 1) (unscored 0) (fresh 1) (held 0))"
         self.assertEqual(self.refusal(self.LOAN, header=none), 5)
         self.assertEqual(self.refusal(self.LOAN.replace(b"720 7", b"none"), header=unscored), 5)
         self.assertEqual(self.refusal(self.LOAN.replace(b"(bal 700)", b"(bal 0)"), header=none), 3)
@@ -241,6 +241,110 @@ class HouseIndex(unittest.TestCase):
         for order in orders:
             self.assertEqual(sorted(order), sorted(lines))
             self.assertFalse(any(fed(self.HEADER, *order)[1]))
+
+
+class Fresh(unittest.TestCase):
+    """Request L5, by hand."""
+
+    def header(self, loans, unscored, fresh, held=0):
+        return b"(book (loans %d) (unscored %d) (fresh %d) (held %d))" % (loans, unscored, fresh, held)
+
+    def refusals(self, counts, *scores):
+        """The refusals of loans with these scores, and that of closing after them."""
+        opened, refused = fed(self.header(*counts), *(book_runs.loan(7, 7, score) for score in scores))
+        return refused, opened.closing_refusal()
+
+    def test_form(self):
+        self.assertEqual(forms.read_opening(b"(book (loans 10) (unscored 1) (fresh 9) (held 3))"), ("book", (10, 1, 9, 3)))
+        for line in (
+            b"(book (loans 10) (unscored 1) (scores fresh) (held 3))", b"(book (loans 10) (unscored 1) (scores aged) (held 3))",
+            b"(book (loans 10) (unscored 1) (scores 9) (held 3))", b"(book (loans 10) (unscored 1) (fresh) (held 3))",
+            b"(book (loans 10) (unscored 1) (fresh none) (held 3))", b"(book (loans 10) (unscored 1) (fresh 09) (held 3))",
+            b"(book (loans 10) (fresh 9) (unscored 1) (held 3))", b"(book (loans 10) (unscored 1) (fresh 9) (fresh 9) (held 3))",
+            b"(book (loans 10) (unscored 1) (held 3))", b"(book (loans 10) (unscored 1) (fresh 100000000000000) (held 3))",
+        ):
+            self.assertEqual((forms.read_opening(line), forms.read_feeding(line)), (2, 2))
+        self.assertEqual(forms.read_feeding(b"(book (loans 10) (unscored 1) (fresh 9) (held 3))"), 7)
+
+    def test_header_counts(self):
+        """4 by the sum of both; 3 for loans and held comes first; neither count has a range of its own."""
+        most, digits = 1_000_000, 99_999_999_999_999
+        for counts in ((0, 0, 0), (10, 1, 9), (10, 0, 10), (10, 10, 0), (10, 1, 8), (most, most, 0), (most, 0, most), (most, 1, most - 1)):
+            self.assertEqual(forms.read_opening(self.header(*counts)).values[:3], counts)
+        for counts in (
+            (0, 0, 1), (0, 1, 0), (10, 1, 10), (10, 2, 9), (10, 0, 11), (10, 11, 0), (most, 1, most), (10, 0, digits), (10, digits, 0),
+            (10, digits, digits), (most, 0, digits), (most, digits, digits),
+        ):
+            self.assertEqual(forms.read_opening(self.header(*counts)), 4)
+            self.assertEqual(forms.read_opening(self.header(*counts, 10**13)), 4)
+            self.assertEqual(forms.read_opening(self.header(*counts, 10**13 + 1)), 3)
+        self.assertEqual(forms.read_opening(self.header(most + 1, 0, digits)), 3)
+        self.assertEqual(forms.read_opening(self.header(most + 1, 0, 0)), 3)
+        self.assertEqual(book.open_book(self.header(10, 2, 9), [7] * 65), 4)
+        self.assertEqual(book.open_book(self.header(10, 1, 9), [7] * 65), 10)
+
+    def test_ages(self):
+        for score, fresh in ((None, False), ((300, 0), True), ((900, 12), True), ((720, 13), False), ((720, 600), False)):
+            self.assertEqual(loan.is_fresh(score), fresh)
+
+    def test_table(self):
+        """90% of the header's loans, and no fewer; 0 of 0 is the first column."""
+        first = ((0, 0), (1, 1), (2, 2), (9, 9), (10, 9), (10, 10), (11, 10), (99, 90), (100, 90), (101, 91), (999_999, 900_000), (1_000_000, 900_000))
+        aged = ((1, 0), (2, 1), (9, 8), (10, 8), (10, 0), (11, 9), (99, 89), (100, 89), (101, 90), (999_999, 899_999), (1_000_000, 899_999))
+        for serving, counts in ((False, first), (True, aged)):
+            for loans, fresh in counts:
+                self.assertEqual(book.open_book(self.header(loans, 0, fresh)).aged, serving)
+        self.assertFalse(book.open_book(self.header(10, 1, 9)).aged)
+        self.assertTrue(book.open_book(self.header(10, 2, 8)).aged)
+
+    def test_factors(self):
+        """Example 6's loans: on the aged table 1.00 and 0.65, on the first column 0.90 and 0.65."""
+        for fresh, factors in ((8, (F(1), F(65, 100))), (9, (F(90, 100), F(65, 100)))):
+            opened, refused = fed(self.header(10, 0, fresh), book_runs.loan(7, 7, b"719 13"), book_runs.loan(7, 7, b"720 12"))
+            self.assertEqual(refused, [0, 0])
+            self.assertEqual(tuple(opened.loan_terms(form)[-1] for form in opened.taken), factors)
+
+    def test_too_many(self):
+        """5 by each count alone; a loan that is not fresh is limited by the loans alone."""
+        self.assertEqual(self.refusals((3, 0, 1), b"720 12", b"720 0", b"720 13", b"720 13", b"720 13"), ([0, 5, 0, 0, 5], 0))
+        self.assertEqual(self.refusals((3, 1, 1), b"none", b"none", b"720 7", b"720 7", b"720 13"), ([0, 5, 0, 5, 0], 0))
+        self.assertEqual(self.refusals((2, 0, 2), b"720 7", b"720 7", b"720 7", b"720 13", b"none"), ([0, 0, 5, 5, 5], 0))
+        self.assertEqual(self.refusals((2, 1, 1), b"720 13", b"720 13", b"720 13", b"720 7", b"none"), ([0, 0, 5, 5, 5], 6))
+        self.assertEqual(self.refusals((1, 1, 0), b"720 7", b"none"), ([5, 0], 0))
+        self.assertEqual(self.refusals((1, 0, 1), b"none", b"720 7"), ([5, 0], 0))
+        self.assertEqual(self.refusals((0, 0, 0), b"720 7", b"720 13", b"none"), ([5, 5, 5], 0))
+
+    def test_too_few(self):
+        """6 by each count alone, and before 9."""
+        for scores in ((b"720 7", b"none"), (b"720 7", b"720 13", b"720 13"), (b"none", b"720 13", b"720 13"), ()):
+            self.assertEqual(self.refusals((3, 1, 1), *scores), ([0] * len(scores), 6))
+            opened, _ = fed(self.header(3, 1, 1), *(book_runs.loan(7, 7, score) for score in scores))
+            self.assertEqual([opened.closing_refusal(size, 512) for size in (0, 511, 512)], [6, 6, 6])
+        opened, _ = fed(self.header(3, 1, 1), *(book_runs.loan(7, 7, score) for score in (b"none", b"720 13", b"720 7")))
+        self.assertEqual([opened.closing_refusal(size, 512) for size in (0, 511, 512)], [9, 9, 0])
+
+    def test_order_of_refusals(self):
+        """3 before 5, and 5 before 12."""
+        lacking = book_runs.loan(7, 7, since=book_runs.made(201003))
+        tried = (lacking, lacking.replace(b"720 7", b"720 13"), lacking.replace(b"(bal 7)", b"(bal 0)"))
+        self.assertEqual(fed(self.header(1, 0, 0), *tried)[1], [5, 12, 3])
+        self.assertEqual(fed(self.header(3, 0, 1), book_runs.loan(7, 7), *tried)[1], [0, 5, 12, 3])
+
+    def test_header_decides(self):
+        """The table goes by the header's counts, whatever lines are there yet; a refused opening's value is on the first column."""
+        for fresh, aged in ((9, False), (8, True)):
+            for line in (book_runs.loan(7, 7), book_runs.loan(7, 7, b"720 13")):
+                opened, _ = fed(self.header(10, 0, fresh), line)
+                self.assertEqual((opened.aged, opened.closing_refusal()), (aged, 6))
+        self.assertFalse(book.Book(0, 0, 0, 0).aged)
+
+    def test_generated_books(self):
+        """Books that the tests generate are taken; a third at least are on either table, and many have exactly 90% fresh ones."""
+        source = random.Random(5)
+        opened = [book.run(b"\n".join(book_runs.whole_book(source))) for _ in range(400)]
+        aged = sum(found.aged for found in opened)
+        self.assertTrue(len(opened) <= 3 * aged <= 2 * len(opened))
+        self.assertGreater(sum(found.loans > 0 and 10 * found.fresh == 9 * found.loans for found in opened), 20)
 
 
 def changed(numbers, changes):
@@ -328,7 +432,7 @@ class Sheets(unittest.TestCase):
 
     def test_opening(self):
         """10 after 1, 2, 7, 3 and 4; a sheet that is taken opens the book, which keeps it."""
-        header = b"(book (loans 3) (unscored 1) (scores aged) (held 0))"
+        header = b"(book (loans 3) (unscored 1) (fresh 2) (held 0))"
         long, third, fourth = b" " * 241, header.replace(b"3", b"1000001"), header.replace(b"3", b"0")
         for line, refusal in ((long, 1), (b"", 2), (b"(claims 7)", 7), (third, 3), (fourth, 4), (header, 10)):
             self.assertEqual(book.open_book(line, [7] * 65), refusal)
@@ -338,13 +442,13 @@ class Sheets(unittest.TestCase):
 
     def test_loan_terms(self):
         lent = changed([7] * 66, {65: 6, 64: 6, 63: 6, 62: 6, 61: 6, 60: 5})
-        opened = book.open_book(b"(book (loans 2) (unscored 1) (scores aged) (held 0))", lent)
+        opened = book.open_book(b"(book (loans 2) (unscored 1) (fresh 1) (held 0))", lent)
         for score, m in ((b"900 0", F(5, 100)), (b"900 13", F(6, 100)), (b"779 0", F(7, 100)), (b"none", F(3))):
             self.assertEqual(opened.loan_terms(forms.read_feeding(book_runs.loan(7, 8, score, 9))), (7, 8, 9, 9, 1, m))
 
     def test_requirement(self):
         """The exact requirement of a loan goes with the sheet's number: of 0.02 it is twice that of 0.01."""
-        data = b"(book (loans 1) (unscored 0) (scores fresh) (held 0))\n" + book_runs.loan(10_000_000, 11_000_000)
+        data = b"(book (loans 1) (unscored 0) (fresh 1) (held 0))\n" + book_runs.loan(10_000_000, 11_000_000)
         (low, high), (low_twice, high_twice) = (book.run(data, [number] * 66).exact_requirement() for number in (1, 2))
         self.assertLess(0, low)
         self.assertLessEqual(2 * low, high_twice)
@@ -354,17 +458,18 @@ class Sheets(unittest.TestCase):
 
 class Books(unittest.TestCase):
     def test_small_loan(self):
-        """The numbers of the loan that fills up a book are certain, in a fresh book and in an aged one, under any sheet."""
-        for scores in (b"fresh", b"aged"):
+        """The numbers of the loan that fills up a book are certain: fresh, not fresh and without a score, under any sheet."""
+        unscored = book_runs.SMALL_LOAN.replace(b"900 0", b"none")
+        for fresh, line in ((1, book_runs.SMALL_LOAN), (0, book_runs.SMALL_AGED), (0, unscored)):
             for lent in (None, [1] * 66, [300] * 66):
-                found = book.run(b"(book (loans 1) (unscored 0) (scores %s) (held 0))\n" % scores + book_runs.SMALL_LOAN, lent)
+                found = book.run(b"(book (loans 1) (unscored %d) (fresh %d) (held 0))\n" % (line is unscored, fresh) + line, lent)
                 bounds = found.sum_bounds(book_runs.LOAN_DISTANCE)
                 self.assertEqual(bounds, (book_runs.SMALL_TOTAL, book_runs.SMALL_TOTAL, 0, 0))
 
     def test_cells(self):
         """The table of three loans with known numbers, two of them in one cell, written out by hand."""
         lines = book_runs.SMALL_LOAN * 2 + book_runs.SMALL_LOAN.replace(b"900 0", b"599 600")
-        found = book.run(b"(book (loans 3) (unscored 0) (scores fresh) (held 0))\n" + lines)
+        found = book.run(b"(book (loans 3) (unscored 0) (fresh 2) (held 0))\n" + lines)
         certain = [(charge, charge) for charge in (1, *[0] * 49, 2, *[0] * 9)]
         self.assertEqual(list(cells.charge_bounds(found, book_runs.LOAN_DISTANCE)), certain)
         table = cells.text(found, [charge for charge, _ in certain]).split(b"\n")

@@ -131,6 +131,12 @@ def _exact_terms(balance, value, months, term, sup, m):
 
 
 @lru_cache(maxsize=1 << 12)
+def _exact_bounds(*values):
+    """The bounds of both."""
+    return tuple(map(combination_bounds, _exact_terms(*values)))
+
+
+@lru_cache(maxsize=1 << 12)
 def _allowed_numbers(values, distance):
     """The least and greatest allowed total number of a loan, and supplement number."""
     total, supplement = _exact_terms(*values)
@@ -140,22 +146,27 @@ def _allowed_numbers(values, distance):
 class Book:
     """The header's values, the sheet of credit factors where one is lent, the forms of the lines taken, and the index values they set."""
 
-    def __init__(self, loans, unscored, scores, held, sheet=None):
+    def __init__(self, loans, unscored, fresh, held, sheet=None):
         self.loans = loans
         self.unscored = unscored
-        self.aged = scores == b"aged"
+        self.fresh = fresh
+        self.aged = loan.on_aged_table(loans, fresh)
         self.held = held
         self.sheet = None if sheet is None else tuple(sheet)
         self.taken = []
         self.loan_count = 0
         self.unscored_count = 0
+        self.fresh_count = 0
         self.other_count = 0
         self.index = {}  # by area and month
 
     def _loan_refusal(self, form):
-        if self.loan_count == self.loans or (form.kind == "loan_unscored" and self.unscored_count == self.unscored):
+        said = loan_values(form)
+        no_place = said.score is None and self.unscored_count == self.unscored
+        no_place |= loan.is_fresh(said.score) and self.fresh_count == self.fresh
+        if no_place or self.loan_count == self.loans:
             return 5
-        return 12 if house_index.missing(loan_values(form), self.index) else 0
+        return 12 if house_index.missing(said, self.index) else 0
 
     def _other_refusal(self, form):
         if self.other_count == OTHER_LINES:
@@ -180,6 +191,7 @@ class Book:
             return refusal
         self.loan_count += is_loan(form)
         self.unscored_count += form.kind == "loan_unscored"
+        self.fresh_count += is_loan(form) and loan.is_fresh(loan_values(form).score)
         self.other_count += not is_loan(form)
         if form.kind == "index":
             self.index[form.values[:2]] = form.values[2]
@@ -188,7 +200,7 @@ class Book:
 
     def closing_refusal(self, buffer=REPORT_BUFFER, least=REPORT_BUFFER):
         """0 where a text that asks for so many bytes at least can be written into such a buffer, else the refusal."""
-        if self.loan_count < self.loans or self.unscored_count < self.unscored:
+        if self.loan_count < self.loans or self.unscored_count < self.unscored or self.fresh_count < self.fresh:
             return 6
         return 9 if buffer < least else 0
 
@@ -254,9 +266,9 @@ class Book:
         ends = []
         totals, supplements = [], []
         for form in self.loan_forms():
-            total, supplement = _exact_terms(*self.loan_terms(form))
-            totals.append(combination_bounds(total))
-            supplements.append(combination_bounds(supplement))
+            total, supplement = _exact_bounds(*self.loan_terms(form))
+            totals.append(total)
+            supplements.append(supplement)
         for side in (0, 1):
             # The requirement rises with the totals and falls with the supplements.
             total = sum((t[side] for t in totals), Fraction(0))

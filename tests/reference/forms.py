@@ -1,4 +1,4 @@
-"""The forms of document 01, "A book, line by line", and of document 02, request L4, as regular expressions, with their ranges."""
+"""The forms of document 01, "A book, line by line", and of document 02, requests L4 and L5, as regular expressions, with their ranges."""
 import re
 from collections import namedtuple
 
@@ -45,8 +45,8 @@ FORMS = [
     for kind, text, ranges in (
         (
             "book",
-            b"(book (loans D) (unscored D) (scores fresh|aged) (held D))",
-            ((0, 1_000_000), _ANY, _WORD, (0, 10_000_000_000_000)),
+            b"(book (loans D) (unscored D) (fresh D) (held D))",
+            ((0, 1_000_000), _ANY, _ANY, (0, 10_000_000_000_000)),
         ),
         (
             "loan",
@@ -126,6 +126,8 @@ def read_feeding(line):
 def read_opening(line):
     """What opening reads: 1, 2, 7, 3, 4, or the header."""
     form = _read(line, opening=True)
-    if isinstance(form, Form) and form.values[1] > form.values[0]:
-        return 4
+    if isinstance(form, Form):
+        loans, unscored, fresh, _ = form.values
+        if unscored + fresh > loans:
+            return 4
     return form

@@ -95,6 +95,7 @@ CREDIT_BANDS = (
     (780, ("0.40", "0.45", "0.55", "0.65", "0.90", "1.00")),
 )
 AGE_LIMITS = (12, 24, 36, 48, 60)  # document 01: age columns in months; a limit belongs to its column
+FRESH_AGE = 12  # request L5: the greatest age of a fresh score
 
 
 def scaled_value(p, q):
@@ -170,6 +171,16 @@ def total(z, balance, months, term, sup, m):
 def band(number):
     """The band of a score, 1 to 11 upward."""
     return sum(1 for lowest, _ in CREDIT_BANDS if lowest <= number)
+
+
+def is_fresh(score):
+    """Request L5: whether a score, None or (number, age in months), counts as fresh."""
+    return score is not None and score[1] <= FRESH_AGE
+
+
+def on_aged_table(loans, fresh):
+    """Request L5: the first age column serves at every age where 90% of the header's loans, or more, are fresh; else the whole table does."""
+    return 10 * fresh < 9 * loans
 
 
 def credit_factor(score, aged, loans, unscored, sheet=None):

@@ -114,7 +114,7 @@ plain-counts : (s : State) (l : Line) → indexLine (lineContent l) ≡ 0 → sh
 plain-counts s l z =
     let c : Counts = share (basisIn s) (lineContent l) .counts in
     let e : c .other ≡ c .other + indexLine (lineContent l) = omega (arith, z) in
-    (λ i. record { loans = c .loans; unscored = c .unscored; other = e i }) ∙ counted (basisIn s) (lineRefusal l) (lineContent l)
+    (λ i. record { loans = c .loans; unscored = c .unscored; fresh = c .fresh; other = e i }) ∙ counted (basisIn s) (lineRefusal l) (lineContent l)
 
 -- Feeding a line: l is what was read of it.
 module _ (s : State) (line : List ℕ) {l : Line} (read : l ≡ lineOf line) (sound : Sound s) where

@@ -1,7 +1,7 @@
 // Opening, feeding and closing a book (document 01, "A book, line by line").
 ghost use mathlib.Core.Path.{_≡_};
 ghost use Prim.Native.Nat.{_≤_};
-ghost use lib.Dec.{eqb, leb};
+ghost use lib.Dec.{eqb};
 ghost use lib.ListN.{length};
 ghost use Rattle.exact.specs.Choice.{pick};
 ghost use Rattle.loan_charge.specs.Tables.{exponentials};
@@ -11,10 +11,10 @@ ghost use Rattle.line_forms.specs.declared.Content.the-variants.{Loan as loan, 
 ghost use Rattle.line_forms.specs.Claims.{lineContent};
 ghost use Rattle.figures.specs.Sums.{Bounded, InLimits, plus, noSums};
 ghost use Rattle.report.specs.Line.{Written};
-ghost use Rattle.book_model.specs.Accepted.{mostOther, loanBeyond, loanRefusal, otherRefusal, indexRefusal};
+ghost use Rattle.book_model.specs.Accepted.{loanRefusal, otherRefusal, indexRefusal};
 ghost use Rattle.book_model.specs.Calls.{stateAt, basisAt, countsOf, openedOf, fedOf, emptyBook, openingFor, opening, tableWith, feedingLine, feeding};
 ghost use Rattle.book_model.specs.Calls.{SoundBook, Sound};
-ghost use Rattle.book_model.specs.Calls.{closingRefusal, reportSize, reportOf, closing, closed, closingCells, closedCells};
+ghost use Rattle.book_model.specs.Calls.{reportSize, reportOf, closing, closed, closingCells, closedCells};
 ghost use Rattle.book_model.specs.HouseIndex.{adjustmentOf, valuesAt, indexWith};
 ghost use Rattle.book_model.specs.LineKinds.{another, kindCounts};
 ghost use Rattle.book_model.specs.Ranges.{Ranged, LoanRanges, IndexRanges};
@@ -27,7 +27,6 @@ use book_model::Fed;
 use book_model::Opened;
 use cell_report::Cell;
 use cell_report::Cells;
-use figures::Counts;
 use figures::Sums;
 use house_index::Index;
 use line_forms::Header;
@@ -35,12 +34,8 @@ use line_forms::HeaderLine;
 use line_forms::IndexValue;
 use line_forms::Line;
 use line_forms::Loan;
-use loan_charge::Score;
 use loan_charge::charge::Exponentials;
 use loan_charge::credit::Rates;
-
-// At most so many lines of a book are not loans.
-const MOST_OTHER: u64 = 100000;
 
 // A report buffer has at least so many bytes.
 const REPORT_SIZE: usize = 512;
@@ -65,7 +60,7 @@ fn zero_header() -> Header
     Header {
         loans: 0,
         unscored: 0,
-        aged: false,
+        fresh: 0,
         held: 0,
     }
 }
@@ -149,34 +144,18 @@ fn with_share(b: Book, share: Sums) -> Fed
     Fed { refusal: 0, book }
 }
 
-// Whether so many lines that are not loans are taken that no more are: index lines count among them.
-fn is_full(b: Book) -> bool
-    requires { ⌜ SoundBook b ⌝ }
-    ensures { λ r. ⌜ r ≡ leb mostOther (countsOf b .other) ⌝ }
-{
-    let sums = b.sums;
-    MOST_OTHER <= sums.counts.other + b.indexed
-}
-
 // A line that is neither a loan nor an index value.
 fn add_other(b: Book, share: Sums) -> Fed
     requires { ⌜ SoundBook b × Bounded share × (share .counts ≡ kindCounts another) ⌝ }
     ensures { λ r. ⌜ r ≡ answerWith (otherRefusal (countsOf b)) b share 0 ⌝ }
 {
-    if is_full(b) {
+    if limits::is_full(b) {
         return Fed {
             refusal: 8,
             book: b,
         };
     }
     with_share(b, share)
-}
-
-// Whether a loan is beyond the header's loans, or one without a score beyond its unscored.
-fn loan_beyond(h: Header, counts: Counts, score: Score) -> bool
-    ensures { λ r. ⌜ r ≡ loanBeyond h counts score ⌝ }
-{
-    (h.loans <= counts.loans) | ((shares::unscored(score) == 1) & (h.unscored <= counts.unscored))
 }
 
 // An index value.
@@ -188,7 +167,7 @@ fn add_index(b: Book, index: &mut Index, i: IndexValue) -> Fed
         pick (eqb (indexRefusal (countsOf b) (valuesAt (now (index .entry)) (i .area) (i .month))) 0) (indexWith (indexContent i) (now (index .entry)))
         (now (index .entry)) ⌝ }
 {
-    if is_full(b) {
+    if limits::is_full(b) {
         return Fed {
             refusal: 8,
             book: b,
@@ -232,7 +211,7 @@ fn add_loan(
     let header = b.header;
     let sums = b.sums;
     let score = l.score;
-    if loan_beyond(header, sums.counts, score) {
+    if limits::loan_beyond(header, sums.counts, score) {
         return Fed {
             refusal: 5,
             book: b,
@@ -329,22 +308,6 @@ pub fn feed(b: Book, rates: &Rates, cells: &mut Cells, index: &mut Index, line: 
     feed_with(b, &exps, rates, cells, index, line)
 }
 
-// The refusal of a closing that asks for a buffer of so many bytes, 0 for none: 6 for too few loans, or too few without a score, then 9.
-fn closing_refusal(b: Book, least: usize, size: usize) -> u64
-    ensures { λ r. ⌜ r ≡ closingRefusal least (b .header) (b .sums .counts) size ⌝ }
-{
-    let header = b.header;
-    let sums = b.sums;
-    let counts = sums.counts;
-    if (counts.loans < header.loans) | (counts.unscored < header.unscored) {
-        return 6;
-    }
-    if size < least {
-        return 9;
-    }
-    0
-}
-
 // The report of a book.
 fn put_report(b: Book, out: &mut [u8]) -> usize
     requires { ⌜ SoundBook b × (reportSize ≤ length (now out)) ⌝ }
@@ -362,7 +325,7 @@ pub fn close(b: Book, out: &mut [u8]) -> Closed
     ensures equation { λ r. ⌜ r ≡ closing b (length (now (out .entry))) ⌝ }
     ensures bytes { λ r. ⌜ now (out .exit) ≡ closed b (now (out .entry)) ⌝ }
 {
-    let refusal = closing_refusal(b, REPORT_SIZE, out.len());
+    let refusal = limits::closing_refusal(b, REPORT_SIZE, out.len());
     if refusal != 0 {
         return Closed { refusal, length: 0 };
     }
@@ -375,7 +338,7 @@ pub fn close_cells(b: Book, cells: &Cells, out: &mut [u8]) -> Closed
     ensures equation { λ r. ⌜ r ≡ closingCells b (now (cells .entry)) (length (now (out .entry))) ⌝ }
     ensures bytes { λ r. ⌜ now (out .exit) ≡ closedCells b (now (cells .entry)) (now (out .entry)) ⌝ }
 {
-    let refusal = closing_refusal(b, CELLS_SIZE, out.len());
+    let refusal = limits::closing_refusal(b, CELLS_SIZE, out.len());
     if refusal != 0 {
         return Closed { refusal, length: 0 };
     }

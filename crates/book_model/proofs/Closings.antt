@@ -1,8 +1,8 @@
 -- Closing by cases of its tests, for any text and any size asked. Assumes nothing.
 use mathlib.Core.Path.{_≡_, refl, _∙_}
-use mathlib.Core.Bool.{Bool, true, false, true≢false, false≢true, _||_}
+use mathlib.Core.Bool.{Bool, true, false, true≢false, false≢true}
 use mathlib.Core.List.{List}
-use mathlib.Core.Logic.{_↔_, _⊎_, inl, inr, ⊎-elim}
+use mathlib.Core.Logic.{_↔_}
 use Prim.Native.Nat.{ℕ, _≤_, _<_}
 use native.Mathlib.Omega.{arith}
 use lib.Dec.{eqb, ltb}
@@ -15,6 +15,8 @@ use Rattle.report.specs.Line.{onto, Written}
 use Rattle.book_model.specs.declared.Book.{Book}
 use Rattle.book_model.specs.declared.Closed.{Closed}
 use Rattle.book_model.specs.Calls.{tooFew, closingRefusal, closingWith, closedWith}
+use Rattle.book_model.specs.Demand2.{CountsShort, CountsReached}
+use Rattle.book_model.proofs.Tests.{closing-test}
 
 -- an answer of closing and the buffer as it leaves it
 abbrev Answers : (least : ℕ) → Book → (text buffer : List ℕ) → Closed → List ℕ → Type 0
@@ -56,25 +58,6 @@ tells least b text size e = rw (eq-eqb (closingRefusal least (b .header) (b .sum
 
 -- When, and only when, each number is answered.
 
--- 6's test in inequalities
-pub few : (h : Header) (c : Counts) → (tooFew h c ≡ true) ↔ ((c .loans < h .loans) ⊎ (c .unscored < h .unscored))
-few h c = (to (ltb (c .loans) (h .loans)) refl, ⊎-elim (λ l. rw (lt-ltb (c .loans) (h .loans) l) refl) (λ u. from (ltb (c .loans) (h .loans)) u))
-  where
-    to : (x : Bool) → ltb (c .loans) (h .loans) ≡ x → (x || ltb (c .unscored) (h .unscored)) ≡ true → (c .loans < h .loans) ⊎ (c .unscored < h .unscored)
-    to true e f = inl (ltb-true (c .loans) (h .loans) e)
-    to false e f = inr (ltb-true (c .unscored) (h .unscored) f)
-
-    from : (x : Bool) → c .unscored < h .unscored → (x || ltb (c .unscored) (h .unscored)) ≡ true
-    from true u = refl
-    from false u = lt-ltb (c .unscored) (h .unscored) u
-
-pub enough : (h : Header) (c : Counts) → (tooFew h c ≡ false) ↔ ((h .loans ≤ c .loans) × (h .unscored ≤ c .unscored))
-enough h c = (to (ltb (c .loans) (h .loans)) refl, λ (l, u). rw (le-ltb (c .loans) (h .loans) l, le-ltb (c .unscored) (h .unscored) u) refl)
-  where
-    to : (x : Bool) → ltb (c .loans) (h .loans) ≡ x → (x || ltb (c .unscored) (h .unscored)) ≡ false → (h .loans ≤ c .loans) × (h .unscored ≤ c .unscored)
-    to true e f = absurd (true≢false f)
-    to false e f = (ltb-false (c .loans) (h .loans) e, ltb-false (c .unscored) (h .unscored) f)
-
 abbrev number : Bool → Bool → ℕ
 number x y = pick x 6 (pick y 9 0)
 
@@ -103,17 +86,20 @@ module _ (least : ℕ) (h : Header) (c : Counts) (size : ℕ) where
   pub gives-0 : tooFew h c ≡ false → least ≤ size → 0 ≡ closingRefusal least h c size
   gives-0 e k = rw (e, le-ltb size least k) refl
 
-  pub closes-6 : (closingRefusal least h c size ≡ 6) ↔ ((c .loans < h .loans) ⊎ (c .unscored < h .unscored))
-  closes-6 = (λ e. few h c .0 (only-6 (tooFew h c) (ltb size least) .0 e), λ k. only-6 (tooFew h c) (ltb size least) .1 (few h c .1 k))
-
-  pub closes-9 : (closingRefusal least h c size ≡ 9) ↔ ((h .loans ≤ c .loans) × (h .unscored ≤ c .unscored) × (size < least))
-  closes-9 = (
-    λ e. let (x, y) = only-9 (tooFew h c) (ltb size least) .0 e in (enough h c .0 x .0, enough h c .0 x .1, ltb-true size least y),
-    λ (l, u, z). only-9 (tooFew h c) (ltb size least) .1 (enough h c .1 (l, u), lt-ltb size least z),
+  pub closes-6 : (closingRefusal least h c size ≡ 6) ↔ CountsShort h c
+  closes-6 = (
+    λ e. closing-test h c .holds .0 (only-6 (tooFew h c) (ltb size least) .0 e),
+    λ k. only-6 (tooFew h c) (ltb size least) .1 (closing-test h c .holds .1 k),
   )
 
-  pub closes-0 : (closingRefusal least h c size ≡ 0) ↔ ((h .loans ≤ c .loans) × (h .unscored ≤ c .unscored) × (least ≤ size))
+  pub closes-9 : (closingRefusal least h c size ≡ 9) ↔ (CountsReached h c × (size < least))
+  closes-9 = (
+    λ e. let (x, y) = only-9 (tooFew h c) (ltb size least) .0 e in (closing-test h c .fails .0 x, ltb-true size least y),
+    λ (k, z). only-9 (tooFew h c) (ltb size least) .1 (closing-test h c .fails .1 k, lt-ltb size least z),
+  )
+
+  pub closes-0 : (closingRefusal least h c size ≡ 0) ↔ (CountsReached h c × (least ≤ size))
   closes-0 = (
-    λ e. let (x, y) = only-0 (tooFew h c) (ltb size least) .0 e in (enough h c .0 x .0, enough h c .0 x .1, ltb-false size least y),
-    λ (l, u, z). only-0 (tooFew h c) (ltb size least) .1 (enough h c .1 (l, u), le-ltb size least z),
+    λ e. let (x, y) = only-0 (tooFew h c) (ltb size least) .0 e in (closing-test h c .fails .0 x, ltb-false size least y),
+    λ (k, z). only-0 (tooFew h c) (ltb size least) .1 (closing-test h c .fails .1 k, le-ltb size least z),
   )

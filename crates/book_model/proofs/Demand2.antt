@@ -1,15 +1,14 @@
 -- Demand 2: each refusal when and only when its condition holds. Assumes nothing.
 use mathlib.Core.Path.{_≡_, refl, sym, ap, _∙_, subst}
-use mathlib.Core.Bool.{Bool, true, false, true≢false, _||_}
+use mathlib.Core.Bool.{Bool, true, false, true≢false}
 use mathlib.Core.List.{List}
-use mathlib.Core.Logic.{_↔_, _⊎_, inl, inr, ⊎-elim}
+use mathlib.Core.Logic.{_↔_, _⊎_, ⊎-elim}
 use Prim.Native.Nat.{ℕ, _+_, _≤_, _<_}
 use native.Mathlib.Omega.{arith}
 use lib.Dec.{leb, eqb}
 use borrow.Author.Tests.{leb-true, leb-false, le-leb, lt-leb, eqb-true, eqb-false, eq-eqb, ne-eqb}
 use Rattle.exact.specs.Choice.{pick}
-use Rattle.loan_charge.specs.declared.Score.{Score}
-use Rattle.loan_charge.specs.declared.Score.the-variants.{Scored, Unscored}
+use Rattle.loan_charge.specs.declared.Score.the-variants.{Unscored}
 use Rattle.sheet.specs.Sheet.{SheetRules, sheetPasses}
 use Rattle.sheet.proofs.Rules.{rules, passes}
 use Rattle.line_forms.specs.declared.Header.{Header}
@@ -30,18 +29,18 @@ use Rattle.line_forms.proofs.HeaderLaws.{header-reading, header-accepted, heade
 use Rattle.figures.specs.declared.Counts.{Counts}
 use Rattle.book_model.specs.Accepted.{Accepted, countsIn, mostOther, loanBeyond, refusalFor, refusalOf}
 use Rattle.book_model.specs.Calls.{Answer, openingFor, opening, closingRefusal, reportSize, cellsSize}
-use Rattle.book_model.specs.Demand2.{OtherForm, Counted, Opens, OpeningAnswer, LoanFits, LoanBeyond, IsSet, ValueMissing, Fits, FeedingAnswer}
+use Rattle.book_model.specs.Demand2.{OtherForm, Fresh, Counted, Opens, OpeningAnswer, LoanFits, LoanBeyond, IsSet, ValueMissing, Fits, FeedingAnswer}
 use Rattle.book_model.specs.Demand2.{ClosingAnswer, Demand2}
 use Rattle.book_model.specs.History.{opened, allFed, termsOf, acceptedOf}
 use Rattle.book_model.specs.HouseIndex.{adjustmentOf, lacking, valuesIn, indexLine}
-use Rattle.book_model.specs.LineKinds.{LineKind, a-loan, an-index, another, refused, contentKind, kindOf, kindCounts, unscoredCount}
+use Rattle.book_model.specs.LineKinds.{LineKind, a-loan, an-index, another, refused, contentKind, kindOf, kindCounts}
 use Rattle.book_model.specs.Terms.{Terms, basisOf}
-use Rattle.book_model.proofs.BoundedShares.{unscored-most}
 use Rattle.book_model.proofs.Closings.{closes-6, closes-9, closes-0}
 use Rattle.book_model.proofs.Demand3.{demand3}
 use Rattle.book_model.proofs.LoanTable.{loan-table}
 use Rattle.book_model.proofs.Openings.{number, openedUnder, sheet-passes, sheet-fails, header-fails}
 use Rattle.book_model.proofs.SetValues.{shows, read, is-set, not-set, values-set, set-has, value-missing, missing-lacks}
+use Rattle.book_model.proofs.Tests.{unscored-is, fresh-is, counts-once, loan-test}
 use Rattle.book_model.proofs.Openings.{Case, book-opens, sheet-refused, header-refused, caseOf}
 
 -- Lines
@@ -110,11 +109,6 @@ module _ (s : List ℕ) where
 
 -- What a line counts as
 
-unscored-is : (score : Score) → unscoredCount score ≡ 1 → score ≡ Unscored
-unfolding unscoredCount
-unscored-is (Scored number age) e = absurd (omega (arith, e))
-unscored-is Unscored e = refl
-
 counted-loan : (s : List ℕ) (k : LineKind) → Shown s k → kindCounts k .loans ≡ 1 → (l : Loan) × ShowsInRange s (loan l)
 unfolding kindCounts
 counted-loan s k (loan-shown l h) e = (l, h)
@@ -124,10 +118,17 @@ counted-loan s k (refused-shown n r) e = absurd (omega (arith, e))
 
 counted-unscored : (s : List ℕ) (k : LineKind) → Shown s k → kindCounts k .unscored ≡ 1 → (l : Loan) × ShowsInRange s (loan l) × (l .score ≡ Unscored)
 unfolding kindCounts
-counted-unscored s k (loan-shown l h) e = (l, h, unscored-is (l .score) e)
+counted-unscored s k (loan-shown l h) e = (l, h, unscored-is (l .score) .0 e)
 counted-unscored s k (index-shown i h) e = absurd (omega (arith, e))
 counted-unscored s k (other-shown c o z h) e = absurd (omega (arith, e))
 counted-unscored s k (refused-shown n r) e = absurd (omega (arith, e))
+
+counted-fresh : (s : List ℕ) (k : LineKind) → Shown s k → kindCounts k .fresh ≡ 1 → (l : Loan) × ShowsInRange s (loan l) × Fresh (l .score)
+unfolding kindCounts
+counted-fresh s k (loan-shown l h) e = (l, h, fresh-is (l .score) .0 e)
+counted-fresh s k (index-shown i h) e = absurd (omega (arith, e))
+counted-fresh s k (other-shown c o z h) e = absurd (omega (arith, e))
+counted-fresh s k (refused-shown n r) e = absurd (omega (arith, e))
 
 counted-other : (s : List ℕ) (k : LineKind) → Shown s k → kindCounts k .other ≡ 1 → (c : Content) × OtherForm c × ShowsInRange s c
 unfolding kindCounts
@@ -136,9 +137,9 @@ counted-other s k (index-shown i h) e = (index i, tt, h)
 counted-other s k (other-shown c o z h) e = (c, o, h)
 counted-other s k (refused-shown n r) e = absurd (omega (arith, e))
 
-counted-once : (k : LineKind) → (kindCounts k .loans + kindCounts k .other ≤ 1) × (kindCounts k .unscored ≤ kindCounts k .loans)
+counted-once : (k : LineKind) → (kindCounts k .loans + kindCounts k .other ≤ 1) × (kindCounts k .unscored + kindCounts k .fresh ≤ kindCounts k .loans)
 unfolding kindCounts
-counted-once (a-loan l) = (omega arith, unscored-most (l .score))
+counted-once (a-loan l) = (omega arith, counts-once (l .score))
 counted-once (an-index i) = (omega arith, omega arith)
 counted-once another = (omega arith, omega arith)
 counted-once (refused n) = (omega arith, omega arith)
@@ -149,60 +150,17 @@ other-counts plain = refl
 other-counts (indexed i) = refl
 
 pub counted : (s : List ℕ) → Counted s
-unfolding kindCounts unscoredCount
+unfolding kindCounts
 counted s = record {
   loans = (counted-loan s (kindOf (lineOf s)) (kind-shown s), λ (l, h). rw (loan-kind s l h) refl);
-  unscored = (counted-unscored s (kindOf (lineOf s)) (kind-shown s), λ (l, h, u). rw (loan-kind s l h, u) refl);
+  unscored = (counted-unscored s (kindOf (lineOf s)) (kind-shown s), λ (l, h, u). rw (loan-kind s l h) (unscored-is (l .score) .1 u));
+  fresh = (counted-fresh s (kindOf (lineOf s)) (kind-shown s), λ (l, h, f). rw (loan-kind s l h) (fresh-is (l .score) .1 f));
   other = (counted-other s (kindOf (lineOf s)) (kind-shown s), λ (c, o, h). other-counts (other-is s c o h));
   once = counted-once (kindOf (lineOf s)) .0;
   among-loans = counted-once (kindOf (lineOf s)) .1;
 }
 
 -- Feeding
-
--- 5's test in inequalities
-beyond : (h : Header) (c : Counts) (score : Score) → loanBeyond h c score ≡ true → LoanBeyond h c score
-unfolding unscoredCount
-beyond h c (Scored number age) e = go (leb (h .loans) (c .loans)) refl e
-  where
-    go : (x : Bool) → leb (h .loans) (c .loans) ≡ x → (x || false) ≡ true → h .loans ≤ c .loans
-    go true f e = leb-true (h .loans) (c .loans) f
-    go false f e = absurd (true≢false (sym e))
-beyond h c Unscored e = go (leb (h .loans) (c .loans)) refl e
-  where
-    go : (x : Bool) → leb (h .loans) (c .loans) ≡ x → (x || leb (h .unscored) (c .unscored)) ≡ true → (h .loans ≤ c .loans) ⊎ (h .unscored ≤ c .unscored)
-    go true f e = inl (leb-true (h .loans) (c .loans) f)
-    go false f e = inr (leb-true (h .unscored) (c .unscored) e)
-
-fits : (h : Header) (c : Counts) (score : Score) → loanBeyond h c score ≡ false → LoanFits h c score
-unfolding unscoredCount
-fits h c (Scored number age) e = go (leb (h .loans) (c .loans)) refl e
-  where
-    go : (x : Bool) → leb (h .loans) (c .loans) ≡ x → (x || false) ≡ false → c .loans < h .loans
-    go true f e = absurd (true≢false e)
-    go false f e = leb-false (h .loans) (c .loans) f
-fits h c Unscored e = go (leb (h .loans) (c .loans)) refl e
-  where
-    go : (x : Bool) → leb (h .loans) (c .loans) ≡ x → (x || leb (h .unscored) (c .unscored)) ≡ false → (c .loans < h .loans) × (c .unscored < h .unscored)
-    go true f e = absurd (true≢false e)
-    go false f e = (leb-false (h .loans) (c .loans) f, leb-false (h .unscored) (c .unscored) e)
-
--- and the other way round
-or-true : (x y : Bool) → y ≡ true → (x || y) ≡ true
-or-true true y e = refl
-or-true false y e = e
-
-beyond-true : (h : Header) (c : Counts) (score : Score) → LoanBeyond h c score → loanBeyond h c score ≡ true
-unfolding unscoredCount
-beyond-true h c (Scored number age) k = rw (le-leb (h .loans) (c .loans) k) refl
-beyond-true h c Unscored k =
-    ⊎-elim (λ l. rw (le-leb (h .loans) (c .loans) l) refl)
-    (λ u. or-true (leb (h .loans) (c .loans)) (leb (h .unscored) (c .unscored)) (le-leb (h .unscored) (c .unscored) u)) k
-
-fits-false : (h : Header) (c : Counts) (score : Score) → LoanFits h c score → loanBeyond h c score ≡ false
-unfolding unscoredCount
-fits-false h c (Scored number age) k = rw (lt-leb (h .loans) (c .loans) k) refl
-fits-false h c Unscored k = rw (lt-leb (h .loans) (c .loans) (k .0), lt-leb (h .unscored) (c .unscored) (k .1)) refl
 
 -- other data keeps to the limit where there is room
 other-fits : (h : Header) (kept : List (List ℕ)) (c : Content) → OtherForm c → indexLine c ≡ 0 → countsIn kept .other < 100000 → Fits h kept c
@@ -231,9 +189,9 @@ module _ (t : Terms) (kept : List (List ℕ)) (s : List ℕ) where
   -- the answer obeys a rule
   judged-loan : (l : Loan) → ShowsInRange s (loan l) → (b m : Bool) → loanBeyond (t .header) n (l .score) ≡ b →
       lacking (adjustmentOf (valuesIn kept) l) ≡ m → Judged t kept s (pick b 5 (pick m 12 0))
-  judged-loan l h true m e f = five l h (beyond (t .header) n (l .score) e)
-  judged-loan l h false true e f = twelve l h (fits (t .header) n (l .score) e) (value-missing kept l f)
-  judged-loan l h false false e f = fitting (loan l) h (fits (t .header) n (l .score) e, values-set kept l f)
+  judged-loan l h true m e f = five l h (loan-test (t .header) n (l .score) .holds .0 e)
+  judged-loan l h false true e f = twelve l h (loan-test (t .header) n (l .score) .fails .0 e) (value-missing kept l f)
+  judged-loan l h false false e f = fitting (loan l) h (loan-test (t .header) n (l .score) .fails .0 e, values-set kept l f)
 
   judged-index : (i : IndexValue) → ShowsInRange s (index i) → (b u : Bool) → leb mostOther (n .other) ≡ b →
       eqb (valuesIn kept (i .area) (i .month)) 0 ≡ u → Judged t kept s (pick b 8 (pick u 0 11))
@@ -277,7 +235,7 @@ module _ (t : Terms) (kept : List (List ℕ)) (s : List ℕ) where
   fitting-answer : (c : Content) → ShowsInRange s c → Fits (t .header) kept c → refusalFor (basisOf t kept) n (kindOf (lineOf s)) ≡ 0
   unfolding refusalFor
   fitting-answer (header x) h f = absurd f
-  fitting-answer (loan l) h f = rw (loan-kind s l h, fits-false (t .header) n (l .score) (f .0), set-has kept l (f .1)) refl
+  fitting-answer (loan l) h f = rw (loan-kind s l h, loan-test (t .header) n (l .score) .fails .1 (f .0), set-has kept l (f .1)) refl
   fitting-answer (policy p) h f = plain-answer (policy p) tt refl h f
   fitting-answer (derivative d) h f = plain-answer (derivative d) tt refl h f
   fitting-answer (asset a) h f = plain-answer (asset a) tt refl h f
@@ -294,8 +252,8 @@ module _ (t : Terms) (kept : List (List ℕ)) (s : List ℕ) where
   answers : {k : ℕ} → Judged t kept s k → refusalFor (basisOf t kept) n (kindOf (lineOf s)) ≡ k
   unfolding refusalFor
   answers (by-bytes k e) = rw (refused-kind s k e) refl
-  answers (five l h b) = rw (loan-kind s l h, beyond-true (t .header) n (l .score) b) refl
-  answers (twelve l h f m) = rw (loan-kind s l h, fits-false (t .header) n (l .score) f, missing-lacks kept l m) refl
+  answers (five l h b) = rw (loan-kind s l h, loan-test (t .header) n (l .score) .holds .1 b) refl
+  answers (twelve l h f m) = rw (loan-kind s l h, loan-test (t .header) n (l .score) .fails .1 f, missing-lacks kept l m) refl
   answers (eight c o h m) = other-answer (other-is s c o h) m
   answers (eleven i h m e) =
       rw (

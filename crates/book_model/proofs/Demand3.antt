@@ -199,7 +199,7 @@ values-permuted p = λ i area month. line-sum-permuted (setBy area month) p i
 pub basis-permuted : (t : Terms) {kept others : List (List ℕ)} → List·Permᴰ kept others → basisOf t kept ≡ basisOf t others
 basis-permuted t p = λ i. record { terms = t; index = values-permuted p i }
 
-sums-permuted : (t : Terms) {kept others : List (List ℕ)} → List·Permᴰ kept others → sumsOf t kept ≡ sumsOf t others
+pub sums-permuted : (t : Terms) {kept others : List (List ℕ)} → List·Permᴰ kept others → sumsOf t kept ≡ sumsOf t others
 unfolding sumsBy
 sums-permuted t {kept} {others} p =
     ap (λ (g : Basis). sumsBy g kept) (basis-permuted t p) ∙ sum-permuted (permuted-map (λ s. share (basisOf t others) (lineContent (lineOf s))) p)

@@ -16,6 +16,7 @@ use Rattle.line_forms.specs.Contents.{headerInRange, moneyInRange, assetInRange
 use Rattle.line_forms.specs.Parsing.{numberAt, afterNumber, afterNegative, signedAt, afterSigned, placeOf, afterWord}
 use Rattle.line_forms.specs.Readings.{headerHeld, assetHeld, plainHeld, signedHeld, amountHeld, contentOf, lineFor, lineOf, headerFor, headerOf}
 use Rattle.other_charges.specs.Charges.{assetCharge, shareCharge}
+use Rattle.figures.specs.declared.Counts.{Counts}
 use Rattle.figures.specs.Sums.{sumOf}
 use Rattle.figures.specs.Figures.{requiredOf, admitted, capitalOf, ratioSize, ratioOf}
 use Rattle.report.specs.Decimal.{leading, digits, signed}
@@ -26,6 +27,7 @@ use Rattle.book_model.specs.Exact.{exactAmount, exactShare, sumOver}
 use Rattle.book_report.specs.Report.{ratioLine, reportText}
 use Rattle.book_model.specs.History.{termsOf, acceptedOf, allFed, sumsBy, opened, linesTaken}
 use Rattle.book_model.specs.Calls.{openingRefusal, opening, closing}
+use Rattle.book_model.specs.Demand2.{CountsReached}
 use Rattle.book_model.specs.Demand3.{figuresFor, reportFor, afterLines}
 use Rattle.book_model.specs.Terms.{termsFor}
 use Rattle.book_model.specs.Examples.{workedHeader, workedLines, workedReport, TwelveExamples}
@@ -43,13 +45,15 @@ unfolding allWithin runOf same after isNumeral valueFrom headerInRange numberAt 
 opens = refl
 
 -- the header counts no loan
-pub counts-none : (termsOf (opened builtInSheet workedHeader) .header .loans ≡ 0) × (termsOf (opened builtInSheet workedHeader) .header .unscored ≡ 0)
+pub counts-none : (c : Counts) → CountsReached (termsOf (opened builtInSheet workedHeader) .header) c
 unfolding allWithin runOf same after isNumeral valueFrom headerInRange numberAt afterNumber placeOf afterWord headerHeld contentOf headerFor headerOf termsFor
     termsOf builtInSheet placePasses placesPass sheetPasses
-counts-none = (refl, refl)
+counts-none c = (omega arith, omega arith, omega arith)
 
 closes : (size : ℕ) → 512 ≤ size → closing (afterLines (opening builtInSheet workedHeader .state) workedLines .book) size .refusal ≡ 0
-closes size h = demand2 .closings builtInSheet workedHeader workedLines size .writes .1 (omega (arith, counts-none .0), omega (arith, counts-none .1), h)
+closes size h =
+    demand2 .closings builtInSheet workedHeader workedLines size .writes .1
+    (counts-none (countsIn (linesTaken (allFed (opened builtInSheet workedHeader) workedLines))), h)
 
 -- the report of the four lines
 worked : reportFor (termsOf (opened builtInSheet workedHeader)) workedLines ≡ workedReport

@@ -1,8 +1,9 @@
 -- Every state that opening and feeding give is sound, and what the functions below the calls ask. Assumes nothing.
 use mathlib.Core.Path.{_≡_, refl, sym, subst}
-use mathlib.Core.Bool.{Bool, true, false, _||_}
+use mathlib.Core.Bool.{Bool, true, false}
 use mathlib.Core.List.{List}
-use Prim.Native.Nat.{ℕ, _+_, _*_, _≤_}
+use mathlib.Core.Logic.{_↔_}
+use Prim.Native.Nat.{ℕ, zero, suc, _+_, _*_, _≤_, _<_}
 use native.Mathlib.Omega.{arith}
 use lib.Dec.{T, eqb, leb, eqb→eq}
 use borrow.Author.Tests.{leb-false}
@@ -10,7 +11,6 @@ use Rattle.exact.specs.Choice.{pick}
 use Rattle.loan_charge.specs.Charge.{Chargeable}
 use Rattle.loan_charge.specs.CreditFactor.{RatesInRange}
 use Rattle.loan_charge.specs.declared.Score.{Score}
-use Rattle.loan_charge.specs.declared.Score.the-variants.{Scored, Unscored}
 use Rattle.loan_charge.proofs.CreditLaws.{built-in}
 use Rattle.sheet.proofs.Loading.{in-range}
 use Rattle.sheet.proofs.Rules.{rules}
@@ -33,7 +33,7 @@ use Rattle.book_model.specs.Calls.{State, Answer, stateAt, termsIn, basi
 use Rattle.book_model.specs.Calls.{cellsAfter, indexAfter, feedingLine, SoundBook, Sound}
 use Rattle.book_model.specs.Cells.{loanBand, loanLtv, cellWith, loanCell, withCell, cellsWith, CellsBounded}
 use Rattle.book_model.specs.HouseIndex.{adjustmentOf, placeFor, valuesAt, indexWith, indexLine, IndexSound}
-use Rattle.book_model.specs.LineKinds.{LineKind, a-loan, an-index, another, refused, contentKind, kindOf, kindCounts, unscoredCount, withIndexed}
+use Rattle.book_model.specs.LineKinds.{LineKind, a-loan, an-index, another, refused, contentKind, kindOf, kindCounts, unscoredCount, freshCount, withIndexed}
 use Rattle.book_model.specs.Ranges.{LoanRanges, CellRanges, Ranged, HeaderRanges, RangedHeader}
 use Rattle.book_model.specs.Share.{shareWith, share}
 use Rattle.book_model.specs.Terms.{Terms, Basis, underSheet, refusedTerms, inputsWith}
@@ -43,6 +43,7 @@ use Rattle.book_model.proofs.Cells.{Held, a-loan as held-loan, no-loan,
 use Rattle.book_model.proofs.IndexTables.{none-sound, index-sound}
 use Rattle.book_model.proofs.Ledger.{taken-loan, taken-index, taken-has, taken-unset}
 use Rattle.book_model.proofs.Near.{ChargeableBasis, rates-chargeable, chargeable}
+use Rattle.book_model.proofs.Tests.{unscored-is, fresh-is, counts-once, loan-test}
 use Rattle.book_model.proofs.Openings.{sheet-passes, sheet-fails, header-fails, Case, book-opens, sheet-refused, header-refused, caseOf}
 
 -- Opening
@@ -53,9 +54,10 @@ empty-sound h r =
       bounded = none-bounded;
       loans = omega arith;
       unscored = omega arith;
+      fresh = omega arith;
       other = omega arith;
       header-loans = r .loans;
-      header-unscored = r .unscored;
+      header-scores = r .scores;
       held = r .held;
     }
 
@@ -64,7 +66,7 @@ empty-state : (t : Terms) → HeaderRanges (t .header) → RatesInRange (t .rate
 empty-state t h r = record { book = empty-sound (t .header) h; rates = r; cells = no-cells-bounded 0; index = none-sound }
 
 pub refused-sound : Sound (emptyState refusedTerms)
-refused-sound = empty-state refusedTerms (record { loans = omega arith; unscored = omega arith; held = omega arith }) built-in
+refused-sound = empty-state refusedTerms (record { loans = omega arith; scores = omega arith; held = omega arith }) built-in
 
 pub opening-sound : (sheet : List ℕ) (l : HeaderLine) → RangedHeader l → Sound (openingFor sheet l .state)
 opening-sound sheet l r = go (caseOf sheet l) r
@@ -81,30 +83,24 @@ opening-sound sheet l r = go (caseOf sheet l) r
 pub record Room (h : Header) (c : Counts) : Type 0 where
   pub loans : c .loans ≤ h .loans
   pub unscored : c .unscored ≤ h .unscored
+  pub fresh : c .fresh ≤ h .fresh
   pub other : c .other ≤ mostOther
 
--- neither test holds
-neither : (a b : Bool) → (a || b) ≡ false → (a ≡ false) × (b ≡ false)
-neither true b e = absurd (subst (λ (t : Bool). T t) e tt)
-neither false b e = (refl, e)
+-- one more, where it counts, is not beyond a count that leaves room for it
+one-more : {P : Type 0} (n taken most : ℕ) → n ≤ 1 → ((n ≡ 1) ↔ P) → taken ≤ most → (P → taken < most) → taken + n ≤ most
+one-more zero taken most h e r f = omega (arith, r)
+one-more (suc zero) taken most h e r f = omega (arith, f (e .0 refl))
+one-more (suc (suc n)) taken most h e r f = absurd (omega (arith, h))
 
 loan-room : (h : Header) (c : Counts) (s : Score) → Room h c → loanBeyond h c s ≡ false →
-    Room h (countsSum c (record { loans = 1; unscored = unscoredCount s; other = 0 }))
-unfolding unscoredCount
-loan-room h c (Scored number age) r e =
+    Room h (countsSum c (record { loans = 1; unscored = unscoredCount s; fresh = freshCount s; other = 0 }))
+loan-room h c s r e =
+    let (l, u, f) = loan-test h c s .fails .0 e in
     record {
-      loans = omega (arith, leb-false (h .loans) (c .loans) (neither (leb (h .loans) (c .loans)) false e .0));
-      unscored =
-          omega (arith, r .unscored);
+      loans = omega (arith, l);
+      unscored = one-more (unscoredCount s) (c .unscored) (h .unscored) (omega (arith, counts-once s)) (unscored-is s) (r .unscored) u;
+      fresh = one-more (freshCount s) (c .fresh) (h .fresh) (omega (arith, counts-once s)) (fresh-is s) (r .fresh) f;
       other = omega (arith, r .other);
-    }
-loan-room h c Unscored r e =
-    let n = neither (leb (h .loans) (c .loans)) (leb (h .unscored) (c .unscored)) e in
-    record {
-      loans = omega (arith, leb-false (h .loans) (c .loans) (n .0));
-      unscored = omega (arith, leb-false (h .unscored) (c .unscored) (n .1));
-      other =
-          omega (arith, r .other);
     }
 
 -- a test that gave no refusal
@@ -113,9 +109,14 @@ single true k z e = absurd (z e)
 single false k z e = refl
 
 -- one line more that is not a loan
-other-room : (h : Header) (c : Counts) → Room h c → leb mostOther (c .other) ≡ false → Room h (countsSum c (record { loans = 0; unscored = 0; other = 1 }))
+other-room : (h : Header) (c : Counts) → Room h c → leb mostOther (c .other) ≡ false → Room h (countsSum c (record { loans = 0; unscored = 0; fresh = 0; other = 1 }))
 other-room h c r e =
-    record { loans = omega (arith, r .loans); unscored = omega (arith, r .unscored); other = omega (arith, leb-false mostOther (c .other) e) }
+    record {
+      loans = omega (arith, r .loans);
+      unscored = omega (arith, r .unscored);
+      fresh = omega (arith, r .fresh);
+      other = omega (arith, leb-false mostOther (c .other) e);
+    }
 
 -- A line that is not refused keeps to the counts.
 pub room : (g : Basis) (c : Counts) (k : LineKind) → Room (g .terms .header) c → refusalFor g c k ≡ 0 → Room (g .terms .header) (countsSum c (kindCounts k))
@@ -123,10 +124,11 @@ unfolding refusalFor kindCounts
 room g c (a-loan l) r e = loan-room (g .terms .header) c (l .score) r (taken-loan g c l e .0)
 room g c (an-index i) r e = other-room (g .terms .header) c r (taken-index g c i e .0)
 room g c another r e = other-room (g .terms .header) c r (single (leb mostOther (c .other)) 8 (λ z. omega (arith, z)) e)
-room g c (refused n) r e = record { loans = omega (arith, r .loans); unscored = omega (arith, r .unscored); other = omega (arith, r .other) }
+room g c (refused n) r e =
+    record { loans = omega (arith, r .loans); unscored = omega (arith, r .unscored); fresh = omega (arith, r .fresh); other = omega (arith, r .other) }
 
 pub book-room : {b : Book} → SoundBook b → Room (b .header) (countsOf b)
-book-room h = record { loans = h .loans; unscored = h .unscored; other = h .other }
+book-room h = record { loans = h .loans; unscored = h .unscored; fresh = h .fresh; other = h .other }
 
 -- A line's sums, and 1 for an index line, keep to the counts of a book.
 abbrev pub Keeps : Book → Sums → ℕ → Type 0
@@ -143,9 +145,10 @@ more-sound k h n r =
       bounded = plus-bounded (h .bounded) n;
       loans = r .loans;
       unscored = r .unscored;
+      fresh = r .fresh;
       other = omega (arith, r .other);
       header-loans = h .header-loans;
-      header-unscored = h .header-unscored;
+      header-scores = h .header-scores;
       held = h .held;
     }
 

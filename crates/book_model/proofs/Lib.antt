@@ -12,6 +12,7 @@ pub mod Demand3
 pub mod ExactSums
 pub mod Examples
 pub mod Feeding
+pub mod FreshScores
 pub mod IndexTables
 pub mod Ledger
 pub mod LineSums
@@ -25,3 +26,4 @@ pub mod SetValues
 pub mod Shapes
 pub mod Steps
 pub mod Tables
+pub mod Tests

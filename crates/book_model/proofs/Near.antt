@@ -20,7 +20,6 @@ use Rattle.loan_charge.proofs.Promise.{promise}
 use Rattle.line_forms.specs.declared.Content.{Content}
 use Rattle.line_forms.specs.declared.Loan.{Loan}
 use Rattle.line_forms.specs.Claims.{lineRefusal, lineContent}
-use Rattle.line_forms.specs.Contents.{onAgedTable}
 use Rattle.line_forms.specs.Readings.{lineOf}
 use Rattle.figures.specs.declared.Sums.{Sums}
 use Rattle.figures.specs.Sums.{sumOf, plus, signedSum}
@@ -102,7 +101,7 @@ pub record ChargeableBasis (g : Basis) : Type 0 where
 
 pub rates-chargeable : (t : Terms) → RatesInRange (t .rates) → (s : Score) → factorFor t s ≤ 3 * 10 ^ 17
 unfolding factorFor
-rates-chargeable t r s = promise .factors (t .rates) r (onAgedTable (t .header)) (t .header .loans) (t .header .unscored) s .most
+rates-chargeable t r s = promise .factors (t .rates) r _ (t .header .loans) (t .header .unscored) s .most
 
 pub inputs-chargeable : (t : Terms) (a : Adjustment) (l : Loan) → factorFor t (l .score) ≤ 3 * 10 ^ 17 → LoanRanges l → AdjustmentRanges a →
     Chargeable (inputsWith t a l)

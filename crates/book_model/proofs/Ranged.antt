@@ -55,5 +55,5 @@ pub ranged-header : (s : List ℕ) → RangedHeader (headerOf s)
 ranged-header s = go (headerOf s) refl
   where
     go : (l : HeaderLine) → headerOf s ≡ l → RangedHeader l
-    go (HeaderRead h) e = let b : HeaderBounds h = header-bounds s h e in record { loans = b .loans .high; unscored = b .unscored; held = b .held .high }
+    go (HeaderRead h) e = let b : HeaderBounds h = header-bounds s h e in record { loans = b .loans .high; scores = b .scores; held = b .held .high }
     go (HeaderRefusal n) e = tt

@@ -182,7 +182,7 @@ adds-within f a = record {
 pub data Shape (g : Basis) : Content → Type 0 where
   of-loan : (l : Loan) → Shape g (loan l)
   of-other : {c : Content} → ((n : ℕ) → contentKind n c ≡ another) → indexLine c ≡ 0 → Adds (share g c) (exactShare g c) (Ranged c) → Shape g c
-  of-none : {c : Content} → ((n : ℕ) → kindCounts (contentKind n c) ≡ record { loans = 0; unscored = 0; other = indexLine c }) → share g c ≡ noSums →
+  of-none : {c : Content} → ((n : ℕ) → kindCounts (contentKind n c) ≡ record { loans = 0; unscored = 0; fresh = 0; other = indexLine c }) → share g c ≡ noSums →
       exactShare g c ≡ nothing → Shape g c
 
 pub shape : (g : Basis) (c : Content) → Shape g c

@@ -49,7 +49,7 @@ stateOf t a = stateAt (bookOf t (a .kept)) (t .rates) (cellsOf (basisOf t (a .ke
 with-sum : (a b : Counts) (m n : ℕ) → withIndexed (countsSum a b) (m + n) ≡ countsSum (withIndexed a m) (withIndexed b n)
 with-sum a b m n =
     let e : a .other + b .other + (m + n) ≡ a .other + m + (b .other + n) = omega arith in
-    λ i. record { loans = a .loans + b .loans; unscored = a .unscored + b .unscored; other = e i }
+    λ i. record { loans = a .loans + b .loans; unscored = a .unscored + b .unscored; fresh = a .fresh + b .fresh; other = e i }
 
 counts-by : (g : Basis) (kept : List (List ℕ)) → withIndexed (sumsBy g kept .counts) (sumBy indexLine kept) ≡ countsIn kept
 unfolding sumsBy sumOf countsIn sumBy

@@ -13,17 +13,18 @@ use Rattle.figures.specs.declared.Counts.{Counts}
 use Rattle.figures.specs.Sums.{noCounts, countsSum}
 use Rattle.book_model.specs.declared.Adjustment.{Adjustment}
 use Rattle.book_model.specs.HouseIndex.{adjustmentOf, lacking}
-use Rattle.book_model.specs.LineKinds.{LineKind, a-loan, an-index, another, refused, kindOf, lineCounts, unscoredCount}
+use Rattle.book_model.specs.LineKinds.{LineKind, a-loan, an-index, another, refused, kindOf, lineCounts, unscoredCount, freshCount}
 use Rattle.book_model.specs.Terms.{Terms, Basis, basisOf}
 
--- how many of the lines are loans, loans without a score, and other lines
+-- how many of the lines are loans, loans without a score, loans with a fresh one, and other lines
 unfoldable pub countsIn : List (List ℕ) → Counts
 countsIn [] = noCounts
 countsIn (s ∷ kept) = countsSum (lineCounts s) (countsIn kept)
 
--- 5: a loan beyond the header's loans, or one without a score beyond its unscored
+-- 5: a loan beyond the header's loans, one without a score beyond its unscored, or one with a fresh score beyond its fresh (02, L5)
 abbrev pub loanBeyond : Header → Counts → Score → Bool
-loanBeyond h c score = leb (h .loans) (c .loans) || (eqb (unscoredCount score) 1 && leb (h .unscored) (c .unscored))
+loanBeyond h c score =
+    leb (h .loans) (c .loans) || (eqb (unscoredCount score) 1 && leb (h .unscored) (c .unscored)) || (eqb (freshCount score) 1 && leb (h .fresh) (c .fresh))
 
 -- then 12: the index value of its month or of 201512, by which its property value goes, is not set
 abbrev pub loanRefusal : Header → Counts → Adjustment → Score → ℕ

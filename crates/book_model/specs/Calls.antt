@@ -127,9 +127,10 @@ pub record SoundBook (b : Book) : Type 0 where
   pub bounded : Bounded (b .sums)
   pub loans : b .sums .counts .loans ≤ b .header .loans
   pub unscored : b .sums .counts .unscored ≤ b .header .unscored
+  pub fresh : b .sums .counts .fresh ≤ b .header .fresh
   pub other : b .sums .counts .other + b .indexed ≤ mostOther
   pub header-loans : b .header .loans ≤ 1000000
-  pub header-unscored : b .header .unscored ≤ b .header .loans
+  pub header-scores : b .header .unscored + b .header .fresh ≤ b .header .loans
   pub held : b .header .held ≤ 10000000000000
 
 -- and of the tables lent with it
@@ -141,9 +142,9 @@ pub record Sound (s : State) : Type 0 where
 
 -- Closing, which writes a text into a buffer of at least so many bytes
 
--- 6 at closing: fewer loans taken than the header counts, or fewer without a score
+-- 6 at closing: fewer loans taken than the header counts, fewer without a score, or fewer with a fresh one (02, L5)
 abbrev pub tooFew : Header → Counts → Bool
-tooFew h c = ltb (c .loans) (h .loans) || ltb (c .unscored) (h .unscored)
+tooFew h c = ltb (c .loans) (h .loans) || ltb (c .unscored) (h .unscored) || ltb (c .fresh) (h .fresh)
 
 -- Closing tests 6, then 9: a buffer of too few bytes.
 abbrev pub closingRefusal : (least : ℕ) → Header → Counts → (size : ℕ) → ℕ

@@ -2,7 +2,6 @@
 -- writes nothing. Over the definitions that the contracts equate with the calls (Calls.antt); proved in proofs/Demand1.antt.
 use Prim.Native.Nat.{ℕ, _≤_}
 use mathlib.Core.Path.{_≡_}
-use mathlib.Core.Bool.{false}
 use mathlib.Core.List.{List, [], _∷_, List·Memᴰ}
 use lib.ListN.{length}
 use Rattle.figures.specs.Sums.{noSums}
@@ -15,7 +14,7 @@ use Rattle.book_model.specs.HouseIndex.{noIndex}
 -- The value of a refused opening: an all-zero header and no line taken, under the regulator's table, no loan in any cell and no index value.
 abbrev pub refusedState : State
 refusedState = record {
-  book = record { header = record { loans = 0; unscored = 0; aged = false; held = 0 }; sums = noSums; indexed = 0 };
+  book = record { header = record { loans = 0; unscored = 0; fresh = 0; held = 0 }; sums = noSums; indexed = 0 };
   rates = builtInRates;
   cells = noCells;
   index = noIndex;

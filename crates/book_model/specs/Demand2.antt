@@ -1,6 +1,7 @@
 -- Demand 2: when, and only when, opening, feeding and closing are refused, and with which number (document 01, "Who can be turned down").
 -- From request L3 on the forms and ranges of the requests of 02 that have landed count as document 01's, and a book is opened and a line
--- taken only where no refusal named in them applies. Up to now these are 10, for a sheet of factors, and 11 and 12, for index values.
+-- taken only where no refusal named in them applies. Up to now these are 10, for a sheet of factors, and 11 and 12, for index values;
+-- L5 adds fresh loans to what 4, 5 and 6 count.
 -- Lines are spoken of by `bytesOf`, how a form's data is written, and not by any reader; counts by inequalities. Proved in
 -- proofs/Demand2.antt.
 use Prim.Native.Nat.{ℕ, _+_, _≤_, _<_}
@@ -39,17 +40,24 @@ OtherForm (amount a) = Unit {0}
 OtherForm (index i) = Unit {0}
 OtherForm NoForm = ⊥
 
--- What a line counts as, by its bytes: as a loan, as one without a score, as another line, or as none of them.
+-- 02, L5: a score with age up to 12
+abbrev pub Fresh : Score → Type 0
+Fresh (Scored number age) = age ≤ 12
+Fresh Unscored = ⊥
+
+-- What a line counts as, by its bytes: as a loan, as one without a score, as one with a fresh score, as another line, or as none of them.
 pub record Counted (s : List ℕ) : Type 0 where
   pub loans : (lineCounts s .loans ≡ 1) ↔ ((l : Loan) × ShowsInRange s (loan l))
   pub unscored : (lineCounts s .unscored ≡ 1) ↔ ((l : Loan) × ShowsInRange s (loan l) × (l .score ≡ Unscored))
+  pub fresh : (lineCounts s .fresh ≡ 1) ↔ ((l : Loan) × ShowsInRange s (loan l) × Fresh (l .score))
   pub other : (lineCounts s .other ≡ 1) ↔ ((c : Content) × OtherForm c × ShowsInRange s c)
   pub once : lineCounts s .loans + lineCounts s .other ≤ 1
-  pub among-loans : lineCounts s .unscored ≤ lineCounts s .loans
+  pub among-loans : lineCounts s .unscored + lineCounts s .fresh ≤ lineCounts s .loans
 
--- s is a header in range that counts no more loans without a score than loans: it opens a book under a sheet that keeps the rules
+-- s is a header in range that counts no more loans without a score and with a fresh one than loans: it opens a book under a sheet that
+-- keeps the rules
 abbrev pub Opens : (s : List ℕ) → Header → Type 0
-Opens s h = ShowsInRange s (header h) × (h .unscored ≤ h .loans)
+Opens s h = ShowsInRange s (header h) × (h .unscored + h .fresh ≤ h .loans)
 
 -- the answer of opening with a sheet of factors and the line s
 pub record OpeningAnswer (sheet s : List ℕ) (a : Answer) : Type 0 where
@@ -58,18 +66,16 @@ pub record OpeningAnswer (sheet s : List ℕ) (a : Answer) : Type 0 where
   pub number-2 : (a .refusal ≡ 2) ↔ ((length s ≤ 240) × NoBytes s)
   pub number-7 : (a .refusal ≡ 7) ↔ ((c : Content) × AfterHeader c × Shows s c)
   pub number-3 : (a .refusal ≡ 3) ↔ ((h : Header) × Shows s (header h) × (inRange (header h) ≡ false))
-  pub number-4 : (a .refusal ≡ 4) ↔ ((h : Header) × ShowsInRange s (header h) × (h .loans < h .unscored))
+  pub number-4 : (a .refusal ≡ 4) ↔ ((h : Header) × ShowsInRange s (header h) × (h .loans < h .unscored + h .fresh))
   -- 10 after all tests of the header, and only where a rule of the sheet is broken
   pub number-10 : (a .refusal ≡ 10) ↔ (((h : Header) × Opens s h) × (SheetRules sheet → ⊥))
 
 -- a loan that the header's counts leave room for, and one beyond them, where lines with the counts c are taken
 abbrev pub LoanFits : Header → Counts → Score → Type 0
-LoanFits h c (Scored number age) = c .loans < h .loans
-LoanFits h c Unscored = (c .loans < h .loans) × (c .unscored < h .unscored)
+LoanFits h c score = (c .loans < h .loans) × (score ≡ Unscored → c .unscored < h .unscored) × (Fresh score → c .fresh < h .fresh)
 
 abbrev pub LoanBeyond : Header → Counts → Score → Type 0
-LoanBeyond h c (Scored number age) = h .loans ≤ c .loans
-LoanBeyond h c Unscored = (h .loans ≤ c .loans) ⊎ (h .unscored ≤ c .unscored)
+LoanBeyond h c score = (h .loans ≤ c .loans) ⊎ ((score ≡ Unscored) × (h .unscored ≤ c .unscored)) ⊎ (Fresh score × (h .fresh ≤ c .fresh))
 
 -- 02, L4: one of the lines taken is an index line of this area and month
 pub record IsSet (kept : List (List ℕ)) (area month : ℕ) : Type 0 where
@@ -113,11 +119,18 @@ pub record FeedingAnswer (t : Terms) (a : Accepted) (s : List ℕ) (n : ℕ) : T
   pub number-8 : (n ≡ 8) ↔ ((c : Content) × OtherForm c × ShowsInRange s c × (100000 ≤ countsIn (a .kept) .other))
   pub number-11 : (n ≡ 11) ↔ ((i : IndexValue) × ShowsInRange s (index i) × (countsIn (a .kept) .other < 100000) × IsSet (a .kept) (i .area) (i .month))
 
+-- lines with the counts c are fewer loans than the header counts, fewer without a score or fewer with a fresh one; or no fewer of any
+abbrev pub CountsShort : Header → Counts → Type 0
+CountsShort h c = (c .loans < h .loans) ⊎ (c .unscored < h .unscored) ⊎ (c .fresh < h .fresh)
+
+abbrev pub CountsReached : Header → Counts → Type 0
+CountsReached h c = (h .loans ≤ c .loans) × (h .unscored ≤ c .unscored) × (h .fresh ≤ c .fresh)
+
 -- n is what closing answers there, with a buffer of this size where `least` bytes are asked
 pub record ClosingAnswer (least : ℕ) (t : Terms) (a : Accepted) (size n : ℕ) : Type 0 where
-  pub number-6 : (n ≡ 6) ↔ ((countsIn (a .kept) .loans < t .header .loans) ⊎ (countsIn (a .kept) .unscored < t .header .unscored))
-  pub number-9 : (n ≡ 9) ↔ ((t .header .loans ≤ countsIn (a .kept) .loans) × (t .header .unscored ≤ countsIn (a .kept) .unscored) × (size < least))
-  pub writes : (n ≡ 0) ↔ ((t .header .loans ≤ countsIn (a .kept) .loans) × (t .header .unscored ≤ countsIn (a .kept) .unscored) × (least ≤ size))
+  pub number-6 : (n ≡ 6) ↔ CountsShort (t .header) (countsIn (a .kept))
+  pub number-9 : (n ≡ 9) ↔ (CountsReached (t .header) (countsIn (a .kept)) × (size < least))
+  pub writes : (n ≡ 0) ↔ (CountsReached (t .header) (countsIn (a .kept)) × (least ≤ size))
 
 -- For every sheet of factors, every header line, every list of lines fed after it, and the next line or buffer. (An opening that is
 -- refused gives the value of an all-zero header under the regulator's table, of which it holds too.)

@@ -13,9 +13,9 @@ use Rattle.book_model.specs.Calls.{opening, closing}
 use Rattle.book_model.specs.Demand3.{reportFor, afterLines}
 use Rattle.book_model.specs.History.{opened, allFed, termsOf, linesTaken}
 
--- the worked input of document 01 and what it prints
+-- the worked input of document 01, its header as 02, L5, has it, and what it prints
 abbrev pub workedHeader : List ℕ
-workedHeader = text "(book (loans 0) (unscored 0) (scores fresh) (held 0))"
+workedHeader = text "(book (loans 0) (unscored 0) (fresh 0) (held 0))"
 
 abbrev pub workedLines : List (List ℕ)
 workedLines =

@@ -13,6 +13,11 @@ pub data History : Type 0 where
   opened : (sheet header : List ℕ) → History
   fed : History → (line : List ℕ) → History
 
+-- the line that its opening was handed
+unfoldable pub headerLine : History → List ℕ
+headerLine (opened sheet header) = header
+headerLine (fed h line) = headerLine h
+
 -- the sheet of factors lent at its opening, builtInSheet for an opening without one (02, L3)
 unfoldable pub sheetOf : History → List ℕ
 sheetOf (opened sheet header) = sheet

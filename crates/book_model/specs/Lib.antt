@@ -7,6 +7,7 @@ pub mod Demand2
 pub mod Demand3
 pub mod Examples
 pub mod Exact
+pub mod FreshScores
 pub mod History
 pub mod HouseIndex
 pub mod LineKinds

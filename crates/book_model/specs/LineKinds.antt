@@ -1,6 +1,8 @@
 -- What a line is to the counts of a book: a loan, an index value, another line, or one refused by its bytes.
 use Prim.Native.Nat.{ℕ, _+_}
 use mathlib.Core.List.{List, [], _∷_}
+use lib.Dec.{leb}
+use Rattle.exact.specs.Choice.{pick}
 use Rattle.loan_charge.specs.declared.Score.{Score}
 use Rattle.loan_charge.specs.declared.Score.the-variants.{Scored, Unscored}
 use Rattle.line_forms.specs.declared.IndexValue.{IndexValue}
@@ -39,16 +41,21 @@ unfoldable pub unscoredCount : Score → ℕ
 unscoredCount (Scored number age) = 0
 unscoredCount Unscored = 1
 
+-- 02, L5: 1 for a loan with a score that is fresh, of age up to 12, else 0
+unfoldable pub freshCount : Score → ℕ
+freshCount (Scored number age) = pick (leb age 12) 1 0
+freshCount Unscored = 0
+
 -- How a line of a kind counts. Index lines count among the lines that are not loans (02, L4).
 unfoldable pub kindCounts : LineKind → Counts
-kindCounts (a-loan l) = record { loans = 1; unscored = unscoredCount (l .score); other = 0 }
-kindCounts (an-index i) = record { loans = 0; unscored = 0; other = 1 }
-kindCounts another = record { loans = 0; unscored = 0; other = 1 }
+kindCounts (a-loan l) = record { loans = 1; unscored = unscoredCount (l .score); fresh = freshCount (l .score); other = 0 }
+kindCounts (an-index i) = record { loans = 0; unscored = 0; fresh = 0; other = 1 }
+kindCounts another = record { loans = 0; unscored = 0; fresh = 0; other = 1 }
 kindCounts (refused number) = noCounts
 
 -- counts with so many index lines among the lines that are not loans
 abbrev pub withIndexed : Counts → ℕ → Counts
-withIndexed c n = record { loans = c .loans; unscored = c .unscored; other = c .other + n }
+withIndexed c n = record { loans = c .loans; unscored = c .unscored; fresh = c .fresh; other = c .other + n }
 
 abbrev pub lineCounts : List ℕ → Counts
 lineCounts s = kindCounts (kindOf (lineOf s))

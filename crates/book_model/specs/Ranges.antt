@@ -1,6 +1,6 @@
 -- What is known of the numbers of a line or header that is read: the ranges of document 01, as far as the book's code needs them.
 -- Nothing here has to be believed: proofs/Ranged.antt has it of every line, from the laws of line reading, and proofs/Feeding.antt of what a loan adds.
-use Prim.Native.Nat.{_≤_, _<_, _%_}
+use Prim.Native.Nat.{_+_, _≤_, _<_, _%_}
 use Rattle.line_forms.specs.declared.Header.{Header}
 use Rattle.line_forms.specs.declared.IndexValue.{IndexValue}
 use Rattle.line_forms.specs.declared.Loan.{Loan}
@@ -75,7 +75,7 @@ pub record CellRanges (x : Cell) : Type 0 where
 -- A header that is read.
 pub record HeaderRanges (h : Header) : Type 0 where
   pub loans : h .loans ≤ 1000000
-  pub unscored : h .unscored ≤ h .loans
+  pub scores : h .unscored + h .fresh ≤ h .loans
   pub held : h .held ≤ 10000000000000
 
 abbrev pub RangedHeader : HeaderLine → Type 0

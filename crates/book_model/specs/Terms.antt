@@ -1,6 +1,5 @@
 -- What a book is opened under, and what its loans are charged by.
 use Prim.Native.Nat.{ℕ, _*_}
-use mathlib.Core.Bool.{false}
 use mathlib.Core.List.{List}
 use lib.Dec.{eqb}
 use Rattle.exact.specs.Choice.{pick}
@@ -34,7 +33,7 @@ termsWith h = under h builtInRates
 
 -- the all-zero header, under which the value of a refused opening stands, with the regulator's table
 abbrev pub zeroHeader : Header
-zeroHeader = record { loans = 0; unscored = 0; aged = false; held = 0 }
+zeroHeader = record { loans = 0; unscored = 0; fresh = 0; held = 0 }
 
 abbrev pub refusedTerms : Terms
 refusedTerms = termsWith zeroHeader

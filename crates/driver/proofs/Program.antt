@@ -18,13 +18,14 @@ use Rattle.book_model.specs.Examples.{workedHeader, workedLines, workedReport}
 use Rattle.book_model.specs.History.{History, opened, fed, allFed, termsOf, acceptedOf, linesTaken}
 use Rattle.book_model.specs.LoanTable.{cellsFor}
 use Rattle.book_model.specs.Terms.{Terms}
-use Rattle.book_model.proofs.Closings.{few, enough}
 use Rattle.book_model.proofs.Demand2.{openings, feeding-answer}
 use Rattle.book_model.proofs.Demand3.{opened-is, terms-stay, report-is, report-permuted, measured-of, terms-in-range}
 use Rattle.book_model.proofs.Examples.{twelve, counts-none}
+use Rattle.book_model.proofs.FreshScores.{one-header-line}
 use Rattle.book_model.proofs.Ledger.{Good, good-of}
 use Rattle.book_model.proofs.LoanTable.{cells-text, cell-sums, cells-permuted}
 use Rattle.book_model.proofs.Steps.{stateOf, counts, step}
+use Rattle.book_model.proofs.Tests.{closing-test}
 use Rattle.printing.specs.AtEnd.{withTable, printedAtEnd}
 use Rattle.driver.specs.Printed.{lastOf, linesFrom, linesOf, printedFeeding, printedLines, printed}
 use Rattle.driver.specs.Program.{AllTaken, Outcome, no-line, not-opened, not-taken, too-few, report, Reports, workedInput, Program}
@@ -93,10 +94,9 @@ at-end asked sheet header lines h = go (tooFew (termsOf (opened sheet header) .h
     go : (b : Bool) → tooFew (termsOf (opened sheet header) .header) (countsIn lines) ≡ b →
         Outcome asked sheet (header ∷ lines) (pick b (refusalLine 6 (2 + length lines))
         (withTable asked (reportFor (termsOf (opened sheet header)) lines) (cellsFor (termsOf (opened sheet header)) lines)))
-    go true e = too-few header lines h (few (termsOf (opened sheet header) .header) (countsIn lines) .0 e)
+    go true e = too-few header lines h (closing-test (termsOf (opened sheet header) .header) (countsIn lines) .holds .0 e)
     go false e =
-        let k = enough (termsOf (opened sheet header) .header) (countsIn lines) .0 e in
-        report header lines h (k .0) (k .1) (measured-of (termsOf (opened sheet header)) (terms-in-range (opened sheet header)) lines (good h))
+        report header lines h (closing-test (termsOf (opened sheet header) .header) (countsIn lines) .fails .0 e) (measured-of (termsOf (opened sheet header)) (terms-in-range (opened sheet header)) lines (good h))
         (cell-sums (termsOf (opened sheet header)) lines)
 
 -- and of lines after those
@@ -228,27 +228,37 @@ reported asked sheet header lines r =
     (ap (λ (s : State). printedFeeding asked s 2 lines) (opened-state sheet header)
     ∙ all-fed asked sheet header [] lines 2 (none-taken sheet header (r .all .opens)) (r .all) refl
     ∙ end-is asked sheet header lines (2 + length lines)
-    ∙ rw (enough (t .header) (countsIn lines) .1 (r .loans, r .unscored)) refl)
+    ∙ rw (closing-test (t .header) (countsIn lines) .fails .1 (r .reached)) refl)
 
 same-text : (asked : Bool) (t : Terms) {lines others : List (List ℕ)} → List·Permᴰ lines others →
     withTable asked (reportFor t lines) (cellsFor t lines) ≡ withTable asked (reportFor t others) (cellsFor t others)
 same-text asked t {lines} {others} p =
     ap₂ (withTable asked) (sym (report-is t lines) ∙ report-permuted t p ∙ report-is t others) (cells-permuted t p)
 
-alike : (asked : Bool) (sheet header : List ℕ) (lines others : List (List ℕ)) (x y : List ℕ) → linesOf x ≡ header ∷ lines → linesOf y ≡ header ∷ others →
-    Reports sheet header lines → Reports sheet header others → List·Permᴰ lines others → printed asked sheet x ≡ printed asked sheet y
-alike asked sheet header lines others x y e f r q p =
-    ap (printedLines asked sheet) e ∙ reported asked sheet header lines r ∙ same-text asked (termsOf (opened sheet header)) p ∙ sym
-    (reported asked sheet header others q)
-    ∙ sym (ap (printedLines asked sheet) f)
+-- the lines decide the header line
+one-line : (sheet header other : List ℕ) {lines others : List (List ℕ)} → termsOf (opened sheet header) .header .held ≡ termsOf (opened sheet other) .header .held →
+    Reports sheet header lines → Reports sheet other others → List·Permᴰ lines others → header ≡ other
+one-line sheet header other {lines} {others} e r q p =
+    one-header-line sheet header other lines others (r .all .opens) (q .all .opens) e (rw (r .all .taken, q .all .taken) p) (rw (r .all .taken) (r .reached))
+    (rw (q .all .taken) (q .reached))
+
+alike : (asked : Bool) (sheet header other : List ℕ) (lines others : List (List ℕ)) (x y : List ℕ) →
+    linesOf x ≡ header ∷ lines → linesOf y ≡ other ∷ others → termsOf (opened sheet header) .header .held ≡ termsOf (opened sheet other) .header .held →
+    Reports sheet header lines → Reports sheet other others → List·Permᴰ lines others → (header ≡ other) × (printed asked sheet x ≡ printed asked sheet y)
+alike asked sheet header other lines others x y e f held r q p =
+    let same : header ≡ other = one-line sheet header other held r q p in (
+      same,
+      ap (printedLines asked sheet) e ∙ reported asked sheet header lines r ∙ same-text asked (termsOf (opened sheet header)) p
+          ∙ ap (λ (h : List ℕ). withTable asked (reportFor (termsOf (opened sheet h)) others) (cellsFor (termsOf (opened sheet h)) others)) same
+          ∙ sym (reported asked sheet other others q) ∙ sym (ap (printedLines asked sheet) f),
+    )
 
 -- document 01's worked input
 worked-reports : Reports builtInSheet workedHeader workedLines
 worked-reports =
     record {
       all = record { opens = twelve .opens12; taken = twelve .taken12 };
-      loans = omega (arith, counts-none .0);
-      unscored = omega (arith, counts-none .1);
+      reached = counts-none (countsIn workedLines);
     }
 
 worked-lines : linesOf workedInput ≡ workedHeader ∷ workedLines

@@ -1,6 +1,6 @@
 -- What the program prints of every input, in the words of demands 2 and 3. `printed` is what its reading and finishing write
 -- (contract of `finish`); proved in proofs/Program.antt.
-use Prim.Native.Nat.{ℕ, _+_, _≤_, _<_}
+use Prim.Native.Nat.{ℕ, _+_, _<_}
 use mathlib.Core.Path.{_≡_}
 use mathlib.Core.Bool.{Bool, false}
 use mathlib.Core.List.{List, [], _∷_, _++_, List·Permᴰ}
@@ -11,7 +11,7 @@ use Rattle.report.specs.Line.{refusalLine}
 use Rattle.loan_charge.specs.CreditFactor.{builtInSheet}
 use Rattle.book_model.specs.Accepted.{countsIn}
 use Rattle.book_model.specs.Calls.{opening}
-use Rattle.book_model.specs.Demand2.{OpeningAnswer, FeedingAnswer}
+use Rattle.book_model.specs.Demand2.{OpeningAnswer, FeedingAnswer, CountsShort, CountsReached}
 use Rattle.book_model.specs.Demand3.{reportFor, Measured}
 use Rattle.book_model.specs.Examples.{workedReport}
 use Rattle.book_model.specs.History.{opened, allFed, termsOf, linesTaken}
@@ -36,23 +36,23 @@ pub data Outcome (asked : Bool) (sheet : List ℕ) : (lines : List (List ℕ)) (
   not-taken : (header : List ℕ) (before : List (List ℕ)) (line : List ℕ) (others : List (List ℕ)) (n : ℕ) → (n ≡ 0 → ⊥) → AllTaken sheet header before →
       FeedingAnswer (termsOf (opened sheet header)) (record { kept = before }) line n →
       Outcome asked sheet (header ∷ (before ++ (line ∷ others))) (refusalLine n (2 + length before))
-  -- All lines are taken and too few of them are loans, or loans without a score: (refused 6 L), L the number after the last line.
+  -- All lines are taken and too few of them are loans, loans without a score or loans with a fresh one: (refused 6 L), L the number after
+  -- the last line.
   too-few : (header : List ℕ) (lines : List (List ℕ)) → AllTaken sheet header lines →
-      ((countsIn lines .loans < termsOf (opened sheet header) .header .loans) ⊎ (countsIn lines .unscored < termsOf (opened sheet header) .header .unscored)) →
+      CountsShort (termsOf (opened sheet header) .header) (countsIn lines) →
       Outcome asked sheet (header ∷ lines) (refusalLine 6 (2 + length lines))
-  -- All lines are taken and there are as many loans as the header counts: the report of the lines, whose required amount is never below
+  -- All lines are taken and there are as many loans of each sort as the header counts: the report of the lines, whose required amount is never below
   -- the exact requirement and less than the allowance above it; and after it, where that is asked for, the 60 lines of the table, whose
   -- counts and charges sum to the report's loans and total.
   report : (header : List ℕ) (lines : List (List ℕ)) → AllTaken sheet header lines →
-      termsOf (opened sheet header) .header .loans ≤ countsIn lines .loans → termsOf (opened sheet header) .header .unscored ≤ countsIn lines .unscored →
+      CountsReached (termsOf (opened sheet header) .header) (countsIn lines) →
       Measured (termsOf (opened sheet header)) lines → CellSums (termsOf (opened sheet header)) lines →
       Outcome asked sheet (header ∷ lines) (withTable asked (reportFor (termsOf (opened sheet header)) lines) (cellsFor (termsOf (opened sheet header)) lines))
 
 -- An input that prints a report.
 pub record Reports (sheet header : List ℕ) (lines : List (List ℕ)) : Type 0 where
   pub all : AllTaken sheet header lines
-  pub loans : termsOf (opened sheet header) .header .loans ≤ countsIn lines .loans
-  pub unscored : termsOf (opened sheet header) .header .unscored ≤ countsIn lines .unscored
+  pub reached : CountsReached (termsOf (opened sheet header) .header) (countsIn lines)
 
 -- From here on more input changes nothing: a line was refused, or the line being read has over 240 bytes.
 abbrev pub Settled : Reading → Type 0
@@ -61,13 +61,16 @@ Settled s = (s .stage .refusal ≡ 0 → ⊥) ⊎ (240 < length (s .tail))
 -- the worked input, in which every line ends in a newline
 abbrev pub workedInput : List ℕ
 workedInput =
-    text "(book (loans 0) (unscored 0) (scores fresh) (held 0))\n(asset (amount 100000) (factor 25))\n(claims 1001)\n(equity 1000)\n(c 100)\n"
+    text "(book (loans 0) (unscored 0) (fresh 0) (held 0))\n(asset (amount 100000) (factor 25))\n(claims 1001)\n(equity 1000)\n(c 100)\n"
 
 pub record Program : Type 0 where
   pub prints : (asked : Bool) (sheet input : List ℕ) → Outcome asked sheet (linesOf input) (printed asked sheet input)
-  -- Under the same sheet two inputs with the same header line and the same lines in whatever order that both print a report print the same bytes.
-  pub alike : (asked : Bool) (sheet header : List ℕ) (lines others : List (List ℕ)) (x y : List ℕ) → linesOf x ≡ header ∷ lines → linesOf y ≡ header ∷ others →
-      Reports sheet header lines → Reports sheet header others → List·Permᴰ lines others → printed asked sheet x ≡ printed asked sheet y
+  -- Under the same sheet two inputs with the same held and the same lines in whatever order that both print a report have the same header
+  -- line, since the lines decide its counts (02, L5), and print the same bytes.
+  pub alike : (asked : Bool) (sheet header other : List ℕ) (lines others : List (List ℕ)) (x y : List ℕ) →
+      linesOf x ≡ header ∷ lines → linesOf y ≡ other ∷ others →
+      termsOf (opened sheet header) .header .held ≡ termsOf (opened sheet other) .header .held →
+      Reports sheet header lines → Reports sheet other others → List·Permᴰ lines others → (header ≡ other) × (printed asked sheet x ≡ printed asked sheet y)
   -- The program may stop reading there.
   pub stops : (asked : Bool) (sheet input more : List ℕ) → Settled (withBytes (fromStart sheet) input) →
       printed asked sheet (input ++ more) ≡ printed asked sheet input

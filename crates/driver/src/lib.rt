@@ -52,7 +52,7 @@ pub fn start(rates: &mut Rates, cells: &mut Cells, index: &mut Index) -> Run
     let header = Header {
         loans: 0,
         unscored: 0,
-        aged: false,
+        fresh: 0,
         held: 0,
     };
     let book = Book {

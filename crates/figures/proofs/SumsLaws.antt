@@ -12,6 +12,7 @@ use Rattle.figures.specs.Sums.{moneySum, moneyOf, inParts, noSums, plus,
 pub record Same (x y : Sums) : Type 0 where
   pub loans : x .counts .loans ≡ y .counts .loans
   pub unscored : x .counts .unscored ≡ y .counts .unscored
+  pub fresh : x .counts .fresh ≡ y .counts .fresh
   pub other : x .counts .other ≡ y .counts .other
   pub total-plus : x .total .plus ≡ y .total .plus
   pub total-minus : x .total .minus ≡ y .total .minus
@@ -30,7 +31,7 @@ pub record Same (x y : Sums) : Type 0 where
 
 pub same : {x y : Sums} → Same x y → x ≡ y
 same h = λ i. record {
-  counts = record { loans = h .loans i; unscored = h .unscored i; other = h .other i };
+  counts = record { loans = h .loans i; unscored = h .unscored i; fresh = h .fresh i; other = h .other i };
   total = record { plus = h .total-plus i; minus = h .total-minus i };
   supplement = record { plus = h .supplement-plus i; minus = h .supplement-minus i };
   rest = record { cents = h .rest-cents i; parts = h .rest-parts i };

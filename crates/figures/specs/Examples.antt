@@ -10,7 +10,7 @@ use Rattle.figures.specs.Figures.{positiveEquity, admittedB, admittedC, 
 -- example 12: an asset of 100,000 at 25 ten-thousandths, claims of 1,001 at 20%, equity 1,000, c 100
 abbrev pub sums12 : Sums
 sums12 = record {
-  counts = record { loans = 0; unscored = 0; other = 4 };
+  counts = record { loans = 0; unscored = 0; fresh = 0; other = 4 };
   total = zeroSigned;
   supplement = zeroSigned;
   rest = moneySum (moneyOf (100000 * 25 * 1000)) (moneyOf (1001 * 2000000));

@@ -29,12 +29,13 @@ inParts x = x .cents * 10000000 + x .parts
 
 -- the counts of no line
 abbrev pub noCounts : Counts
-noCounts = record { loans = 0; unscored = 0; other = 0 }
+noCounts = record { loans = 0; unscored = 0; fresh = 0; other = 0 }
 
 abbrev pub countsSum : Counts → Counts → Counts
 countsSum x y = record {
   loans = x .loans + y .loans;
   unscored = x .unscored + y .unscored;
+  fresh = x .fresh + y .fresh;
   other = x .other + y .other;
 }
 
@@ -75,6 +76,7 @@ sumOf (x ∷ xs) = plus x (sumOf xs)
 -- A loan's numbers lie within -100,000 and 300,000,000 cents; the largest other line is a derivative.
 pub record Bounded (s : Sums) : Type 0 where
   pub unscored : s .counts .unscored ≤ s .counts .loans
+  pub fresh : s .counts .fresh ≤ s .counts .loans
   pub total-plus : s .total .plus ≤ 300000000 * s .counts .loans
   pub total-minus : s .total .minus ≤ 100000 * s .counts .loans
   pub supplement-plus : s .supplement .plus ≤ 300000000 * s .counts .loans

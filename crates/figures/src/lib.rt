@@ -13,10 +13,11 @@ pub struct Money {
     pub parts: u64,
 }
 
-// How many lines are loans, loans without a score, and no loans.
+// How many lines are loans, loans without a score, loans with a fresh one, and no loans.
 pub struct Counts {
     pub loans: u64,
     pub unscored: u64,
+    pub fresh: u64,
     pub other: u64,
 }
 
@@ -51,6 +52,7 @@ pub fn none() -> Sums
         counts: Counts {
             loans: 0,
             unscored: 0,
+            fresh: 0,
             other: 0,
         },
         total: Signed { plus: 0, minus: 0 },
@@ -93,12 +95,14 @@ fn money_sum(x: Money, y: Money) -> Money
 }
 
 fn counts_sum(x: Counts, y: Counts) -> Counts
-    requires { ⌜ (x .loans + y .loans < 2 ^ 64) × (x .unscored + y .unscored < 2 ^ 64) × (x .other + y .other < 2 ^ 64) ⌝ }
+    requires { ⌜ (x .loans + y .loans < 2 ^ 64) × (x .unscored + y .unscored < 2 ^ 64) × (x .fresh + y .fresh < 2 ^ 64)
+        × (x .other + y .other < 2 ^ 64) ⌝ }
     ensures { λ r. ⌜ r ≡ countsSum x y ⌝ }
 {
     Counts {
         loans: sum(x.loans, y.loans),
         unscored: sum(x.unscored, y.unscored),
+        fresh: sum(x.fresh, y.fresh),
         other: sum(x.other, y.other),
     }
 }

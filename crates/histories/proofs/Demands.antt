@@ -1,20 +1,22 @@
--- Demands 1 to 3 of the calls, and requests L1, L3 and L4, from the theorems about the definitions that their contracts cite. Assumes nothing.
+-- Demands 1 to 3 of the calls, and requests L1 and L3 to L5, from the theorems about the definitions that their contracts cite. Assumes nothing.
 use mathlib.Core.Path.{_≡_, refl, sym, _∙_, ap, ap₂, subst}
 use mathlib.Core.List.{List, [], _∷_}
 use Prim.Native.Nat.{ℕ, _≤_}
 use lib.ListN.{length, take}
 use Rattle.loan_charge.specs.CreditFactor.{builtInSheet, ratesOf}
 use Rattle.sheet.specs.Sheet.{SheetRules}
+use Rattle.line_forms.specs.declared.Header.{Header}
 use Rattle.report.specs.Line.{onto}
 use Rattle.book_model.specs.declared.Book.{Book}
 use Rattle.book_model.specs.declared.Closed.{Closed}
 use Rattle.book_model.specs.declared.Fed.{Fed}
 use Rattle.book_model.specs.declared.Opened.{Opened}
-use Rattle.book_model.specs.Accepted.{Accepted}
+use Rattle.book_model.specs.Accepted.{Accepted, countsIn}
 use Rattle.book_model.specs.Calls.{State, Answer, stateAt, termsIn, openedOf, fedOf, opening, feedingLine, feeding, closing, closed, closingCells, Sound}
 use Rattle.book_model.specs.Calls.{reportSize, cellsSize, closedCells}
 use Rattle.book_model.specs.Demand3.{Writes, Closes, SameTexts, SameReports}
-use Rattle.book_model.specs.History.{History, fed, allFed, sheetOf, termsOf, acceptedOf, linesTaken}
+use Rattle.book_model.specs.FreshScores.{CountsKept, CountsMet}
+use Rattle.book_model.specs.History.{History, fed, allFed, headerLine, sheetOf, termsOf, acceptedOf, linesTaken}
 use Rattle.book_model.specs.LoanTable.{WritesCells, SameTables}
 use Rattle.book_model.specs.HouseIndex.{InTable, valuesIn, valuesAt}
 use Rattle.book_model.specs.Terms.{Terms, basisOf, under}
@@ -22,6 +24,7 @@ use Rattle.book_model.proofs.AdjustedValues.{adjusted-values}
 use Rattle.book_model.proofs.Demand1.{demand1}
 use Rattle.book_model.proofs.Demand2.{openings, feeding-answer, closing-answer}
 use Rattle.book_model.proofs.Demand3.{opened-is, fed-is, terms-in-range, closes-of, measured-of, same-reports}
+use Rattle.book_model.proofs.FreshScores.{fresh-scores}
 use Rattle.book_model.proofs.LoanTable.{cell-is, cell-sums, cells-written, same-tables}
 use Rattle.book_model.proofs.IndexTables.{values-are}
 use Rattle.book_model.proofs.Ledger.{good-of}
@@ -29,6 +32,7 @@ use Rattle.book_model.proofs.OwnFactors.{own-factors}
 use Rattle.book_model.proofs.SetValues.{not-set}
 use Rattle.book_model.proofs.Steps.{stateOf}
 use Rattle.histories.specs.Demands.{CallsDemand1, CallsDemand2, CallsDemand3, CallsLoanTable, CallsOwnFactors, CallsAdjustedValues}
+use Rattle.histories.specs.Demands.{CallsFreshScores}
 use Rattle.histories.specs.Given.{OpeningCall, by-open, by-open-sheet, FeedingCall, by-feed, by-feed-with, CloseCall, CellsCall}
 use Rattle.histories.specs.Given.{Given, by-opening, by-feeding}
 
@@ -212,4 +216,36 @@ calls-adjusted-values = record {
       let before = table-is g area month k in
       table-is (by-feeding g line a c) area month k ∙ stays h line area month (rw before at n) ∙ sym before;
   settled = λ {h} {s} g. adjusted-values .settled h;
+}
+
+-- the header of a state is the one its history was opened under
+header-given : {h : History} {s : State} → Given h s → termsOf h .header ≡ s .book .header
+header-given g = ap (λ (t : Terms). t .header) (terms-given g)
+
+opens : {h : History} {s : State} → Given h s → opening (sheetOf h) (headerLine h) .refusal ≡ 0
+unfolding sheetOf headerLine
+opens (by-opening sheet line a c e) = sym (ap (λ (x : Answer). x .refusal) (opened-by c)) ∙ e
+opens (by-feeding g line a c) = opens g
+
+met-given : {h : History} {s : State} → Given h s → {buffer after : List ℕ} {r : Closed} → CloseCall (s .book) buffer r after → r .refusal ≡ 0 →
+    CountsMet (termsOf h .header) (countsIn (linesTaken h))
+met-given {h} g c e = fresh-scores .met h (calls-demand2 .closings g c .writes .0 e .0)
+
+pub calls-fresh-scores : CallsFreshScores
+calls-fresh-scores = record {
+  kept = λ {h} {s} g. subst (λ (x : Header). CountsKept x (countsIn (linesTaken h))) (header-given g) (fresh-scores .kept h);
+  met = λ {h} {s} g c e. subst (λ (x : Header). CountsMet x (countsIn (linesTaken h))) (header-given g) (met-given g c e);
+  cells-met = λ {h} {s} g c e. subst (λ (x : Header). CountsMet x (countsIn (linesTaken h))) (header-given g)
+      (fresh-scores .met h (calls-demand2 .cells-closings g c .writes .0 e .0));
+  first-column = λ {h} {s} g c e l number age.
+      let (a, b, f) = met-given g c e in
+      rw (calls-own-factors .terms g, sym (header-given g))
+      (fresh-scores .first-column (sheetOf h) (under-sheet g .0) (termsOf h .header) (rw (a, f) at l) number age);
+  aged-table = λ {h} {s} g c e l number age.
+      let (a, b, f) = met-given g c e in
+      rw (calls-own-factors .terms g, sym (header-given g))
+      (fresh-scores .aged-table (sheetOf h) (under-sheet g .0) (termsOf h .header) (rw (a, f) at l) number age);
+  one-header = λ {h} {k} {s} {u} g f e p c d z w.
+      fresh-scores .one-header h k (opens g) (opens f) (ap (λ (x : Header). x .held) (header-given g) ∙ e ∙ sym (ap (λ (x : Header). x .held) (header-given f)))
+      p (calls-demand2 .closings g c .writes .0 z .0) (calls-demand2 .closings f d .writes .0 w .0);
 }

@@ -1,11 +1,12 @@
--- Demands 1 to 3 of the calls `open`, `open_sheet`, `feed`, `feed_with`, `close` and `close_cells` themselves, and requests L1, L3 and L4.
+-- Demands 1 to 3 of the calls `open`, `open_sheet`, `feed`, `feed_with`, `close` and `close_cells` themselves, and requests L1 and L3 to L5.
 -- Proved in proofs/Demands.antt.
 use mathlib.Core.Path.{_≡_}
 use mathlib.Core.List.{List, [], _∷_, _++_, List·Memᴰ, List·Permᴰ}
 use mathlib.Core.Logic.{_↔_}
-use Prim.Native.Nat.{ℕ, _≤_}
+use Prim.Native.Nat.{ℕ, _*_, _≤_, _<_}
 use lib.ListN.{length, take}
-use Rattle.loan_charge.specs.CreditFactor.{builtInSheet, ratesOf}
+use Rattle.loan_charge.specs.declared.Score.the-variants.{Scored}
+use Rattle.loan_charge.specs.CreditFactor.{builtInSheet, ratesOf, hundredths, band, column, entryAt}
 use Rattle.sheet.specs.Sheet.{SheetRules}
 use Rattle.line_forms.specs.declared.Loan.{Loan}
 use Rattle.line_forms.specs.declared.Content.the-variants.{Loan as loan, Index as index}
@@ -14,15 +15,16 @@ use Rattle.report.specs.Line.{onto}
 use Rattle.cell_report.specs.CellReport.{cellAt}
 use Rattle.book_model.specs.declared.Book.{Book}
 use Rattle.book_model.specs.declared.Closed.{Closed}
-use Rattle.book_model.specs.Accepted.{accept}
+use Rattle.book_model.specs.Accepted.{countsIn, accept}
 use Rattle.book_model.specs.Calls.{State, Answer, Sound}
 use Rattle.book_model.specs.Demand1.{refusedState}
 use Rattle.book_model.specs.Demand2.{OpeningAnswer, FeedingAnswer, ClosingAnswer, IsSet, Indexed}
 use Rattle.book_model.specs.Demand3.{reportFor, Measured}
-use Rattle.book_model.specs.History.{History, sheetOf, termsOf, acceptedOf, linesTaken}
+use Rattle.book_model.specs.FreshScores.{CountsKept, CountsMet}
+use Rattle.book_model.specs.History.{History, headerLine, sheetOf, termsOf, acceptedOf, linesTaken}
 use Rattle.book_model.specs.HouseIndex.{InTable, valuesAt}
 use Rattle.book_model.specs.LoanTable.{cellFor, cellsFor, CellSums}
-use Rattle.book_model.specs.Terms.{underSheet}
+use Rattle.book_model.specs.Terms.{underSheet, factorFor}
 use Rattle.histories.specs.Given.{OpenCall, OpenSheetCall, OpeningCall, FeedingCall, CloseCall, CellsCall, Given}
 
 -- Demand 1. That every call comes to an end is part of what it means that it is proved.
@@ -105,3 +107,25 @@ pub record CallsAdjustedValues : Type 0 where
   -- Every loan taken from 200501 to 201511 has both its values.
   pub settled : {h : History} {s : State} → Given h s → (line : List ℕ) (l : Loan) → List·Memᴰ line (linesTaken h) → ShowsInRange line (loan l) → Indexed l →
       IsSet (linesTaken h) (l .area) (l .from) × IsSet (linesTaken h) (l .area) 201512
+
+-- 02, L5, of every state that the calls gave.
+pub record CallsFreshScores : Type 0 where
+  -- The lines taken keep to the header's counts of loans, of loans without a score and of loans with a fresh one;
+  pub kept : {h : History} {s : State} → Given h s → CountsKept (s .book .header) (countsIn (linesTaken h))
+  -- where either closing writes, they are as many of each,
+  pub met : {h : History} {s : State} → Given h s → {buffer after : List ℕ} {r : Closed} → CloseCall (s .book) buffer r after → r .refusal ≡ 0 →
+      CountsMet (s .book .header) (countsIn (linesTaken h))
+  pub cells-met : {h : History} {s : State} → Given h s → {buffer after : List ℕ} {r : Closed} → CellsCall (s .book) (s .cells) buffer r after →
+      r .refusal ≡ 0 → CountsMet (s .book .header) (countsIn (linesTaken h))
+  -- and so decide the table: the first column when 10 times the fresh loans taken are at least 9 times the loans taken, else that of the age.
+  pub first-column : {h : History} {s : State} → Given h s → {buffer after : List ℕ} {r : Closed} → CloseCall (s .book) buffer r after → r .refusal ≡ 0 →
+      9 * countsIn (linesTaken h) .loans ≤ 10 * countsIn (linesTaken h) .fresh → (number age : ℕ) →
+      factorFor (termsOf h) (Scored number age) ≡ hundredths (entryAt (sheetOf h) (band number) 0)
+  pub aged-table : {h : History} {s : State} → Given h s → {buffer after : List ℕ} {r : Closed} → CloseCall (s .book) buffer r after → r .refusal ≡ 0 →
+      10 * countsIn (linesTaken h) .fresh < 9 * countsIn (linesTaken h) .loans → (number age : ℕ) →
+      factorFor (termsOf h) (Scored number age) ≡ hundredths (entryAt (sheetOf h) (band number) (column age))
+  -- The writer of a book cannot choose: two books with the same held and the same lines taken, in whatever order, that are both closed with a
+  -- report were opened by the same line.
+  pub one-header : {h k : History} {s u : State} → Given h s → Given k u → s .book .header .held ≡ u .book .header .held →
+      List·Permᴰ (linesTaken h) (linesTaken k) → {x y after-x after-y : List ℕ} {r q : Closed} → CloseCall (s .book) x r after-x →
+      CloseCall (u .book) y q after-y → r .refusal ≡ 0 → q .refusal ≡ 0 → headerLine h ≡ headerLine k

@@ -34,13 +34,13 @@ fn header(line: &[u8]) -> Content
 {
     let loans = line_fields::number_after(line, 0, b"(book (loans ");
     let unscored = line_fields::number_after(line, loans.next, b") (unscored ");
-    let scores = line_fields::word_after(line, unscored.next, b") (scores ", b"fresh|aged");
-    let held = line_fields::number_after(line, scores.next, b") (held ");
+    let fresh = line_fields::number_after(line, unscored.next, b") (fresh ");
+    let held = line_fields::number_after(line, fresh.next, b") (held ");
     if line_fields::skip(line, held.next, b"))") == line.len() {
         return Content::Header(Header {
             loans: loans.value,
             unscored: unscored.value,
-            aged: scores.value == 1,
+            fresh: fresh.value,
             held: held.value,
         });
     }

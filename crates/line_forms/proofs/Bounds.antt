@@ -1,5 +1,5 @@
 -- What the ranges say of the numbers of an accepted line or header, as facts.
-use Prim.Native.Nat.{ℕ, _≤_, _<_, _%_}
+use Prim.Native.Nat.{ℕ, _+_, _≤_, _<_, _%_}
 use mathlib.Core.Path.{_≡_}
 use mathlib.Core.Bool.{true, _&&_}
 use mathlib.Core.List.{List}
@@ -37,7 +37,7 @@ between low high n h = let k = within-bounds low high n h in record { low = k .0
 pub record HeaderBounds (h : Header) : Type 0 where
   pub loans : Between 0 1000000 (h .loans)
   pub held : Between 0 10000000000000 (h .held)
-  pub unscored : h .unscored ≤ h .loans
+  pub scores : h .unscored + h .fresh ≤ h .loans
 
 pub header-bounds : (s : List ℕ) (h : Header) → headerOf s ≡ HeaderRead h → HeaderBounds h
 unfolding inRange headerInRange
@@ -47,7 +47,7 @@ header-bounds s h e =
     record {
       loans = between 0 1000000 (h .loans) (a .0);
       held = between 0 10000000000000 (h .held) (a .1);
-      unscored = k .2;
+      scores = k .2;
     }
 
 abbrev pub ScoreBounds : Score → Type 0

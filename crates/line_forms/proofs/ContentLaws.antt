@@ -54,11 +54,6 @@ class-place zero h = refl
 class-place (suc zero) h = refl
 class-place (suc (suc i)) h = absurd (omega arith)
 
-scores-place : (i : ℕ) → i < 2 → pick (eqb i 1) 1 0 ≡ i
-scores-place zero h = refl
-scores-place (suc zero) h = refl
-scores-place (suc (suc i)) h = absurd (omega arith)
-
 kind-place : (i : ℕ) → i < 6 → kindPlace (kindAt i) ≡ i
 kind-place zero h = refl
 kind-place (suc zero) h = refl
@@ -74,7 +69,7 @@ made s f v u k e = rw e (k .1, k .0)
 
 -- every form is proper
 proper-header : proper headerForm ≡ true
-unfolding stops spelled among same allWithin
+unfolding stops
 proper-header = refl
 
 pub proper-loan : proper loanForm ≡ true
@@ -116,10 +111,7 @@ held-right f s make other p g r =
 header-right : (s : List ℕ) → Right s (headerHeld s)
 unfolding headerHeld bytesOf
 header-right s =
-    held-right headerForm s (λ v. header (headerWith v)) NoForm proper-header
-    (λ v k. inr (made s headerForm v (headerValues (headerWith v)) k
-    (ap (λ (i : ℕ). (v .0, (v .1 .0, (i, v .1 .1 .1)))) (scores-place (v .1 .1 .0) (k .1 .1 .1 .0)))))
-    (inl refl)
+    held-right headerForm s (λ v. header (headerWith v)) NoForm proper-header (λ v k. inr (k .1, k .0)) (inl refl)
 
 loan-right : (s : List ℕ) → Right s (loanHeld s)
 unfolding loanHeld bytesOf
@@ -232,17 +224,11 @@ held :
     s ≡ formText f v → AllWritable f v → pick (hasForm f s) (make (valuesAt f s 0)) other ≡ make v
 held f s make other v p e w = let k = form-has f s v p e w in rw (k .0) (ap make (k .1))
 
-aged-back :
-    (h : Header) (b : Bool) → b ≡ h .aged →
-    header (record { loans = h .loans; unscored = h .unscored; aged = eqb (pick b 1 0) 1; held = h .held }) ≡ header h
-aged-back h true e = ap (λ (b : Bool). header (record { loans = h .loans; unscored = h .unscored; aged = b; held = h .held })) e
-aged-back h false e = ap (λ (b : Bool). header (record { loans = h .loans; unscored = h .unscored; aged = b; held = h .held })) e
-
 header-written : (s : List ℕ) (h : Header) → Writable (header h) → s ≡ bytesOf (header h) → contentOf s ≡ header h
 unfolding bytesOf headerHeld placeOf same allWithin
 header-written s h w e =
     named s (text "book") _ 4 (header h) refl refl e
-    (held headerForm s (λ v. header (headerWith v)) NoForm (headerValues h) proper-header e w ∙ aged-back h (h .aged) refl)
+    (held headerForm s (λ v. header (headerWith v)) NoForm (headerValues h) proper-header e w)
 
 loan-written : (s : List ℕ) (l : Loan) → Writable (loan l) → s ≡ bytesOf (loan l) → contentOf s ≡ loan l
 unfolding bytesOf loanHeld placeOf same allWithin

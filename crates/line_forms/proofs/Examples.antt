@@ -33,8 +33,8 @@ unfolding contentOf headerHeld loanHeld policyHeld derivativeHeld assetHeld inde
     allWithin runOf same after isNumeral valueFrom inRange
     headerInRange scoreInRange loanInRange policyInRange moneyInRange derivativeInRange assetInRange amountInRange monthInRange indexInRange
 line-texts = record {
-  fresh = shows refl refl;
-  aged = shows refl refl;
+  book = shows refl refl;
+  book-aged = shows refl refl;
   scored = shows refl refl;
   unscored = shows refl refl;
   home = shows refl refl;

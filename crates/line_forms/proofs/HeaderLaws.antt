@@ -1,5 +1,5 @@
 -- Header reading answers by the rules of 01, when and only when each holds; and a header in range is read from its bytes.
-use Prim.Native.Nat.{ℕ, _≤_, _<_}
+use Prim.Native.Nat.{ℕ, _+_, _≤_, _<_}
 use native.Mathlib.Omega.{arith}
 use mathlib.Core.Path.{_≡_, refl, sym, _∙_, ap, subst}
 use mathlib.Core.Bool.{Bool, true, false}
@@ -30,21 +30,21 @@ data Answer (s : List ℕ) : HeaderLine → Type 0 where
   formless : length s ≤ 240 → NoBytes s → Answer s (HeaderRefusal 2)
   other : (c : Content) → AfterHeader c → Writable c → s ≡ bytesOf c → Answer s (HeaderRefusal 7)
   out : (h : Header) → Writable (header h) → inRange (header h) ≡ false → s ≡ bytesOf (header h) → Answer s (HeaderRefusal 3)
-  over : (h : Header) → Writable (header h) → inRange (header h) ≡ true → h .loans < h .unscored → s ≡ bytesOf (header h) → Answer s (HeaderRefusal 4)
-  held : (h : Header) → Writable (header h) → inRange (header h) ≡ true → h .unscored ≤ h .loans → s ≡ bytesOf (header h) → Answer s (HeaderRead h)
+  over : (h : Header) → Writable (header h) → inRange (header h) ≡ true → h .loans < h .unscored + h .fresh → s ≡ bytesOf (header h) → Answer s (HeaderRefusal 4)
+  held : (h : Header) → Writable (header h) → inRange (header h) ≡ true → h .unscored + h .fresh ≤ h .loans → s ≡ bytesOf (header h) → Answer s (HeaderRead h)
 
 judged :
     (s : List ℕ) (h : Header) → Writable (header h) → s ≡ bytesOf (header h) → (b : Bool) → inRange (header h) ≡ b →
-    (d : Bool) → ltb (h .loans) (h .unscored) ≡ d →
+    (d : Bool) → ltb (h .loans) (h .unscored + h .fresh) ≡ d →
     Answer s (pick b (pick d (HeaderRefusal 4) (HeaderRead h)) (HeaderRefusal 3))
-judged s h w e true r true x = over h w r (ltb-true (h .loans) (h .unscored) x) e
-judged s h w e true r false x = held h w r (ltb-false (h .loans) (h .unscored) x) e
+judged s h w e true r true x = over h w r (ltb-true (h .loans) (h .unscored + h .fresh) x) e
+judged s h w e true r false x = held h w r (ltb-false (h .loans) (h .unscored + h .fresh) x) e
 judged s h w e false r true x = out h w r e
 judged s h w e false r false x = out h w r e
 
 answer-for : (s : List ℕ) (c : Content) → Writable c → s ≡ bytesOf c → Answer s (headerFor c)
 unfolding headerFor inRange
-answer-for s (header h) w e = judged s h w e (inRange (header h)) refl (ltb (h .loans) (h .unscored)) refl
+answer-for s (header h) w e = judged s h w e (inRange (header h)) refl (ltb (h .loans) (h .unscored + h .fresh)) refl
 answer-for s (loan x) w e = other (loan x) tt w e
 answer-for s (policy x) w e = other (policy x) tt w e
 answer-for s (derivative x) w e = other (derivative x) tt w e
@@ -72,7 +72,7 @@ other-form NoForm a = absurd a
 
 header-range :
     (h : Header) →
-    headerFor (header h) ≡ pick (inRange (header h)) (pick (ltb (h .loans) (h .unscored)) (HeaderRefusal 4) (HeaderRead h)) (HeaderRefusal 3)
+    headerFor (header h) ≡ pick (inRange (header h)) (pick (ltb (h .loans) (h .unscored + h .fresh)) (HeaderRefusal 4) (HeaderRead h)) (HeaderRefusal 3)
 unfolding headerFor inRange
 header-range h = refl
 
@@ -86,8 +86,8 @@ answers s r (long l) = answer-long (HeaderRefusal 1) headerFor s l
 answers s r (formless l n) = answer-none (HeaderRefusal 1) headerFor s l n
 answers s r (other c a w e) = read-as s c w e ∙ other-form c a
 answers s r (out h w o e) = read-as s (header h) w e ∙ header-range h ∙ rw o
-answers s r (over h w o l e) = read-as s (header h) w e ∙ header-range h ∙ rw (o, lt-ltb (h .loans) (h .unscored) l)
-answers s r (held h w o l e) = read-as s (header h) w e ∙ header-range h ∙ rw (o, le-ltb (h .loans) (h .unscored) l)
+answers s r (over h w o l e) = read-as s (header h) w e ∙ header-range h ∙ rw (o, lt-ltb (h .loans) (h .unscored + h .fresh) l)
+answers s r (held h w o l e) = read-as s (header h) w e ∙ header-range h ∙ rw (o, le-ltb (h .loans) (h .unscored + h .fresh) l)
 
 -- an answer's number tells the rule
 rule1 : (s : List ℕ) (r : HeaderLine) → Answer s r → headerRefusal r ≡ 1 → 240 < length s
@@ -126,7 +126,7 @@ rule3 s r (held h w o l e) q = absurd (omega arith)
 
 rule4 :
     (s : List ℕ) (r : HeaderLine) → Answer s r → headerRefusal r ≡ 4 →
-    (h : Header) × Writable (header h) × (inRange (header h) ≡ true) × (h .loans < h .unscored) × (s ≡ bytesOf (header h))
+    (h : Header) × Writable (header h) × (inRange (header h) ≡ true) × (h .loans < h .unscored + h .fresh) × (s ≡ bytesOf (header h))
 rule4 s r (long l) q = absurd (omega arith)
 rule4 s r (formless l n) q = absurd (omega arith)
 rule4 s r (other c a w e) q = absurd (omega arith)
@@ -158,7 +158,7 @@ headerIn g NoForm = g
 
 rule0 :
     (s : List ℕ) (r : HeaderLine) → Answer s r → headerRefusal r ≡ 0 → (g : Header) → headerContent r ≡ header g →
-    Writable (header g) × (inRange (header g) ≡ true) × (g .unscored ≤ g .loans) × (s ≡ bytesOf (header g))
+    Writable (header g) × (inRange (header g) ≡ true) × (g .unscored + g .fresh ≤ g .loans) × (s ≡ bytesOf (header g))
 unfolding headerIn
 rule0 s r (long l) q g z = absurd (omega arith)
 rule0 s r (formless l n) q g z = absurd (omega arith)
@@ -166,7 +166,7 @@ rule0 s r (other c a w e) q g z = absurd (omega arith)
 rule0 s r (out h w o e) q g z = absurd (omega arith)
 rule0 s r (over h w o l e) q g z = absurd (omega arith)
 rule0 s r (held h w o l e) q g z =
-    subst (λ (x : Header). Writable (header x) × (inRange (header x) ≡ true) × (x .unscored ≤ x .loans) × (s ≡ bytesOf (header x)))
+    subst (λ (x : Header). Writable (header x) × (inRange (header x) ≡ true) × (x .unscored + x .fresh ≤ x .loans) × (s ≡ bytesOf (header x)))
     (ap (headerIn g) z)
     (w, o, l, e)
 
@@ -199,24 +199,20 @@ header-reading s = record {
 -- The same by the answer's case, for one that is known.
 pub header-accepted :
     (s : List ℕ) (h : Header) →
-    (headerOf s ≡ HeaderRead h) ↔ (Writable (header h) × (inRange (header h) ≡ true) × (h .unscored ≤ h .loans) × (s ≡ bytesOf (header h)))
+    (headerOf s ≡ HeaderRead h) ↔ (Writable (header h) × (inRange (header h) ≡ true) × (h .unscored + h .fresh ≤ h .loans) × (s ≡ bytesOf (header h)))
 header-accepted s h = (
   λ e. header-reading s .accepted h .0 (ap headerRefusal e, ap headerContent e),
   λ k. answers s (HeaderRead h) (held h (k .0) (k .1) (k .2) (k .3)),
 )
 
 -- a header in its ranges has numbers that a D can write
-header-written : (h : Header) → inRange (header h) ≡ true → h .unscored ≤ h .loans → Writable (header h)
+header-written : (h : Header) → inRange (header h) ≡ true → h .unscored + h .fresh ≤ h .loans → Writable (header h)
 unfolding inRange headerInRange
 header-written h r u =
     let a = and-both (within 0 1000000 (h .loans)) (within 0 10000000000000 (h .held)) r in
     let b = within-bounds 0 1000000 (h .loans) (a .0) in
     let d = within-bounds 0 10000000000000 (h .held) (a .1) in
-    (omega arith, (omega arith, (place (h .aged), (omega arith, tt))))
-  where
-    place : (b : Bool) → pick b 1 0 < 2
-    place true = omega arith
-    place false = omega arith
+    (omega arith, (omega arith, (omega arith, (omega arith, tt))))
 
 pub bytes-read : BytesRead
 bytes-read = record {

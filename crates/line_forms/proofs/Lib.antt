@@ -6,6 +6,7 @@ pub mod ContentLaws
 pub mod Examples
 pub mod FieldLaws
 pub mod FormLaws
+pub mod HeaderCounts
 pub mod HeaderLaws
 pub mod LineLaws
 pub mod NumberLaws

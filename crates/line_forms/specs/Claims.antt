@@ -1,5 +1,5 @@
 -- Demand 2 for one line: when, and only when, line reading and header reading give each of their answers (01, "Who can be turned down").
-use Prim.Native.Nat.{ℕ, _≤_, _<_}
+use Prim.Native.Nat.{ℕ, _+_, _≤_, _<_}
 use mathlib.Core.Bool.{true, false}
 use mathlib.Core.List.{List}
 use mathlib.Core.Logic.{_↔_, _⊎_}
@@ -96,14 +96,14 @@ pub record HeaderReading (s : List ℕ) (r : HeaderLine) : Type 0 where
   pub accepted :
       (h : Header) →
       ((headerRefusal r ≡ 0) × (headerContent r ≡ header h)) ↔
-      (Writable (header h) × (inRange (header h) ≡ true) × (h .unscored ≤ h .loans) × (s ≡ bytesOf (header h)))
+      (Writable (header h) × (inRange (header h) ≡ true) × (h .unscored + h .fresh ≤ h .loans) × (s ≡ bytesOf (header h)))
   pub refused1 : (headerRefusal r ≡ 1) ↔ (longestLine < length s)
   pub refused2 : (headerRefusal r ≡ 2) ↔ ((length s ≤ longestLine) × NoBytes s)
   pub refused7 : (headerRefusal r ≡ 7) ↔ ((c : Content) × AfterHeader c × Writable c × (s ≡ bytesOf c))
   pub refused3 : (headerRefusal r ≡ 3) ↔ ((h : Header) × Writable (header h) × (inRange (header h) ≡ false) × (s ≡ bytesOf (header h)))
   pub refused4 :
       (headerRefusal r ≡ 4) ↔
-      ((h : Header) × Writable (header h) × (inRange (header h) ≡ true) × (h .loans < h .unscored) × (s ≡ bytesOf (header h)))
+      ((h : Header) × Writable (header h) × (inRange (header h) ≡ true) × (h .loans < h .unscored + h .fresh) × (s ≡ bytesOf (header h)))
   pub numbers :
       ((h : Header) × (headerContent r ≡ header h) × (headerRefusal r ≡ 0)) ⊎
       (headerRefusal r ≡ 1) ⊎ (headerRefusal r ≡ 2) ⊎ (headerRefusal r ≡ 7) ⊎ (headerRefusal r ≡ 3) ⊎ (headerRefusal r ≡ 4)
@@ -112,4 +112,4 @@ pub record HeaderReading (s : List ℕ) (r : HeaderLine) : Type 0 where
 pub record BytesRead : Type 0 where
   pub short : (c : Content) → Writable c → length (bytesOf c) ≤ 196
   pub back : (c : Content) → Writable c → contentOf (bytesOf c) ≡ c
-  pub header-back : (h : Header) → inRange (header h) ≡ true → h .unscored ≤ h .loans → headerOf (bytesOf (header h)) ≡ HeaderRead h
+  pub header-back : (h : Header) → inRange (header h) ≡ true → h .unscored + h .fresh ≤ h .loans → headerOf (bytesOf (header h)) ≡ HeaderRead h

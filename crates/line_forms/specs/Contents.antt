@@ -1,12 +1,12 @@
--- 01, "A book, line by line", and 02, L4: each form as it is shown there, its data, and its ranges with both ends.
-use Prim.Native.Nat.{ℕ, _%_}
+-- 01, "A book, line by line", and 02, L4 and L5: each form as it is shown there, its data, and its ranges with both ends.
+use Prim.Native.Nat.{ℕ, _*_, _%_}
 use mathlib.Core.Bool.{Bool, true, false, _&&_}
 use mathlib.Core.List.{List, []}
 use mathlib.Core.Path.{_≡_}
+use lib.Dec.{ltb}
 use Rattle.loan_charge.specs.declared.Score.{Score}
 use Rattle.loan_charge.specs.declared.Score.the-variants.{Scored, Unscored}
 use Rattle.exact.specs.Text.{text}
-use Rattle.exact.specs.Choice.{pick}
 use Rattle.line_forms.specs.Bytes.{within}
 use Rattle.line_forms.specs.Forms.{choicesOf, Form, field, end, number, signed, word, score, Values, AllWritable, formText}
 use Rattle.fixed_point.specs.declared.Signed.{Signed}
@@ -29,28 +29,26 @@ use Rattle.line_forms.specs.declared.Content.the-variants.{Asset as asse
 
 -- The header.
 
--- (book (loans D) (unscored D) (scores fresh|aged) (held D))
-abbrev pub scores : List (List ℕ)
-scores = choicesOf (text "fresh|aged")
-
+-- (book (loans D) (unscored D) (fresh D) (held D)), fresh the count of scored loans with age up to 12 (02, L5)
 abbrev pub headerForm : Form
 headerForm =
     field (text "(book (loans ") number
     (field (text ") (unscored ") number
-    (field (text ") (scores ") (word scores)
+    (field (text ") (fresh ") number
     (field (text ") (held ") number
     (end (text "))")))))
 
 abbrev pub headerValues : Header → Values headerForm
-headerValues h = (h .loans, (h .unscored, (pick (h .aged) 1 0, (h .held, tt))))
+headerValues h = (h .loans, (h .unscored, (h .fresh, (h .held, tt))))
 
--- unscored is bounded only by refusal 4
+-- unscored and fresh are bounded only by refusal 4
 unfoldable pub headerInRange : Header → Bool
 headerInRange h = within 0 1000000 (h .loans) && within 0 10000000000000 (h .held)
 
--- Whether the aged table serves; in a fresh book the first column serves at every age (01, "The loan charge").
-abbrev pub onAgedTable : Header → Bool
-onAgedTable h = h .aged
+-- Whether the aged table serves: "The first column serves when 10 times [fresh] is at least 9 times loans; otherwise the aged table does"
+-- (02, L5).
+unfoldable pub onAgedTable : Header → Bool
+onAgedTable h = ltb (10 * h .fresh) (9 * h .loans)
 
 -- Areas and months (02, L4).
 

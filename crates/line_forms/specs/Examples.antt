@@ -1,6 +1,5 @@
--- One line of every form as text, as 01, "A book, line by line", and 02, L4, show the forms.
+-- One line of every form as text, as 01, "A book, line by line", and 02, L4 and L5, show the forms.
 -- A word that is misspelt alike in the definitions and in the code is seen here.
-use mathlib.Core.Bool.{true, false}
 use Rattle.exact.specs.Text.{text}
 use Rattle.loan_charge.specs.declared.Score.the-variants.{Scored, Unscored}
 use Rattle.line_forms.specs.Claims.{ShowsInRange}
@@ -11,12 +10,12 @@ use Rattle.line_forms.specs.declared.Content.the-variants.{Header as hea
 use Rattle.line_forms.specs.declared.Content.the-variants.{Asset as asset, Amount as amount, Index as index}
 
 pub record LineTexts : Type 0 where
-  pub fresh :
-      ShowsInRange (text "(book (loans 20) (unscored 1) (scores fresh) (held 300))")
-      (header (record { loans = 20; unscored = 1; aged = false; held = 300 }))
-  pub aged :
-      ShowsInRange (text "(book (loans 1000000) (unscored 0) (scores aged) (held 0))")
-      (header (record { loans = 1000000; unscored = 0; aged = true; held = 0 }))
+  pub book :
+      ShowsInRange (text "(book (loans 20) (unscored 1) (fresh 19) (held 300))")
+      (header (record { loans = 20; unscored = 1; fresh = 19; held = 300 }))
+  pub book-aged :
+      ShowsInRange (text "(book (loans 1000000) (unscored 0) (fresh 899999) (held 0))")
+      (header (record { loans = 1000000; unscored = 0; fresh = 899999; held = 0 }))
   pub scored :
       ShowsInRange (text "(loan (bal 1234567) (val 7654321) (amort 186) (term 60) (score 719 13) (sup 1) (from 209912) (area toronto))")
       (loan (record { balance = 1234567; value = 7654321; amortization = 186; term = 60; score = Scored 719 13; supplement = 1; from = 209912; area = 7 }))

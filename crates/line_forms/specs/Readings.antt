@@ -1,5 +1,5 @@
 -- What a line holds, as a function of its bytes, and the answers of line reading and header reading.
-use Prim.Native.Nat.{ℕ}
+use Prim.Native.Nat.{ℕ, _+_}
 use mathlib.Core.List.{List}
 use lib.Dec.{ltb, eqb}
 use lib.ListN.{length}
@@ -37,7 +37,7 @@ abbrev pub headerWith : Values headerForm → Header
 headerWith v = record {
   loans = v .0;
   unscored = v .1 .0;
-  aged = eqb (v .1 .1 .0) 1;
+  fresh = v .1 .1 .0;
   held = v .1 .1 .1 .0;
 }
 
@@ -178,7 +178,7 @@ headerFor (asset a) = HeaderRefusal 7
 headerFor (amount a) = HeaderRefusal 7
 headerFor (index i) = HeaderRefusal 7
 headerFor (header h) =
-    pick (headerInRange h) (pick (ltb (h .loans) (h .unscored)) (HeaderRefusal 4) (HeaderRead h)) (HeaderRefusal 3)
+    pick (headerInRange h) (pick (ltb (h .loans) (h .unscored + h .fresh)) (HeaderRefusal 4) (HeaderRead h)) (HeaderRefusal 3)
 
 -- Opening tests 1, 2, 7, 3, 4.
 unfoldable pub headerOf : List ℕ → HeaderLine

@@ -9,11 +9,11 @@ use loan_charge::Score;
 // A longer line is refused as 1.
 pub const LONGEST_LINE: usize = 240;
 
-// The counts of loans and of loans without a score, whether the aged table serves, and the liabilities held for home loans in cents.
+// The counts of loans, of loans without a score and of loans with a fresh one, and the liabilities held for home loans in cents.
 pub struct Header {
     pub loans: u64,
     pub unscored: u64,
-    pub aged: bool,
+    pub fresh: u64,
     pub held: u64,
 }
 
@@ -122,9 +122,10 @@ pub enum HeaderLine {
     Refusal(u64),
 }
 
-// Whether the aged table serves for a book's scores.
+// Whether the aged table serves for a book's scores. Nine tenths of the loans, rounded up, are the loans less a tenth, rounded down: so
+// nothing passes 64 bits, whatever the counts.
 pub fn on_aged_table(h: Header) -> bool
     ensures { λ r. ⌜ r ≡ onAgedTable h ⌝ }
 {
-    h.aged
+    h.fresh < h.loans - h.loans / 10
 }

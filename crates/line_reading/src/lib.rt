@@ -1,10 +1,13 @@
 // From what a line holds to the line that was read, or to the refusals that need only the line (01, "A book, line by line").
 ghost use mathlib.Core.Path.{_≡_};
+ghost use Prim.Native.Nat.{_+_};
+ghost use lib.Dec.{ltb};
 ghost use Rattle.exact.specs.Choice.{pick};
 ghost use Rattle.line_forms.specs.declared.Line.the-variants.{Refusal};
 ghost use Rattle.line_forms.specs.Claims.{LineReading, HeaderReading};
 ghost use Rattle.line_forms.specs.Readings.{lineOf, lineFor, headerOf, headerFor};
 use line_forms::Content;
+use line_forms::Header;
 use line_forms::HeaderLine;
 use line_forms::LONGEST_LINE;
 use line_forms::Line;
@@ -43,6 +46,16 @@ pub fn read_line(line: &[u8]) -> Line
     line_for(line_contents::content(line))
 }
 
+// Whether a header counts more loans without a score and with a fresh one than loans. The sum of the two might not fit.
+fn over_counted(h: Header) -> bool
+    ensures { λ r. ⌜ r ≡ ltb (h .loans) (h .unscored + h .fresh) ⌝ }
+{
+    if h.loans < h.unscored {
+        return true;
+    }
+    h.loans - h.unscored < h.fresh
+}
+
 fn header_for(c: Content) -> HeaderLine
     ensures { λ r. ⌜ r ≡ headerFor c ⌝ }
 {
@@ -52,7 +65,7 @@ fn header_for(c: Content) -> HeaderLine
             if !ranges::header(h) {
                 return HeaderLine::Refusal(3);
             }
-            if h.loans < h.unscored {
+            if over_counted(h) {
                 return HeaderLine::Refusal(4);
             }
             HeaderLine::Header(h)

@@ -27,7 +27,7 @@ band number =
 unfoldable pub column : ℕ → ℕ
 column age = count (λ limit. ltb limit age) (12 ∷ 24 ∷ 36 ∷ 48 ∷ 60 ∷ [])
 
--- The column that serves: where scores do not count as aged (document 01: in a `fresh` book), the first at every age.
+-- The column that serves: where scores do not count as aged (by the counts of 02, L5), the first at every age.
 unfoldable pub columnServing : Bool → ℕ → ℕ
 columnServing aged age = pick aged (column age) 0
 

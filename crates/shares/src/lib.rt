@@ -5,7 +5,7 @@ ghost use Rattle.loan_charge.specs.Tables.{exponentials};
 ghost use Rattle.loan_charge.specs.CreditFactor.{RatesInRange};
 ghost use Rattle.figures.specs.Sums.{zeroMoney, zeroSigned, moneyOf};
 ghost use Rattle.book_model.specs.Ranges.{LoanRanges, AdjustmentRanges, DerivativeRanges, AssetRanges};
-ghost use Rattle.book_model.specs.LineKinds.{unscoredCount};
+ghost use Rattle.book_model.specs.LineKinds.{unscoredCount, freshCount};
 ghost use Rattle.book_model.specs.Share.{otherShare, capitalShare, policyShare, derivativeShare, assetShare, amountShare, shareWith};
 ghost use Rattle.book_model.specs.Terms.{under, factorFor};
 use book_model::Adjustment;
@@ -43,6 +43,7 @@ fn other(rest: Money, moved: Money, equity: Signed, aoci: Signed, b: u64, c: u64
         counts: Counts {
             loans: 0,
             unscored: 0,
+            fresh: 0,
             other: 1,
         },
         total: no_amount(),
@@ -153,6 +154,21 @@ pub fn unscored(score: Score) -> u64
     }
 }
 
+// 1 for a loan with a fresh score, of age up to 12, else 0.
+pub fn fresh(score: Score) -> u64
+    ensures { λ r. ⌜ r ≡ freshCount score ⌝ }
+{
+    match score {
+        Score::Scored { number: _, age } => {
+            if age <= 12 {
+                return 1;
+            }
+            0
+        }
+        Score::Unscored => 0,
+    }
+}
+
 fn factor(h: Header, score: Score, rates: &Rates) -> u64
     ensures { λ r. ⌜ r ≡ factorFor (under h (now (rates .entry))) score ⌝ }
 {
@@ -186,6 +202,7 @@ pub fn loan(h: Header, l: Loan, a: Adjustment, exps: &Exponentials, rates: &Rate
         counts: Counts {
             loans: 1,
             unscored: unscored(score),
+            fresh: fresh(score),
             other: 0,
         },
         total,

@@ -170,17 +170,13 @@ fn line_answer(l: Line) -> Answer {
     }
 }
 
-fn aged_number(aged: bool) -> u64 {
-    if aged { 1 } else { 0 }
-}
-
 fn opened(h: Header) -> Answer {
     Answer {
         refusal: 0,
         kind: 7,
         a: h.loans,
         b: h.unscored,
-        c: aged_number(h.aged),
+        c: h.fresh,
         d: h.held,
         e: 0,
         f: 0,

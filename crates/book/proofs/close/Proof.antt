@@ -15,7 +15,7 @@ put-report-requires c κs =
     let a = c .before .before .before .before .args in (
       c .before .before .before .before .pre,
       closes-0 reportSize (a .b .header) (a .b .sums .counts) (length (now (a .out))) .0
-          (sym (c .before .before .closing-refusal .ensures) ∙ c .before .if1 .left) .2,
+          (sym (c .before .before .closing-refusal .ensures) ∙ c .before .if1 .left) .1,
     )
 
 returns-2 : tie.Need-returns-2

@@ -14,7 +14,7 @@ put-cells-requires : tie.Need-put-cells-requires
 put-cells-requires c κs =
     let a = c .before .before .before .before .args in
     closes-0 cellsSize (a .b .header) (a .b .sums .counts) (length (now (a .out))) .0
-    (sym (c .before .before .closing-refusal .ensures) ∙ c .before .if1 .left) .2
+    (sym (c .before .before .closing-refusal .ensures) ∙ c .before .if1 .left) .1
 
 returns-2 : tie.Need-returns-2
 returns-2 c = written cellsSize _ _ _ (sym (c .before .before .before .before .before .closing-refusal .ensures) ∙

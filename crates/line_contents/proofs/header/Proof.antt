@@ -10,18 +10,18 @@ use Rattle.line_contents.proofs.header.Tie as tie
 -- what the reader finds
 abbrev found :
     (c : tie.After-skip) →
-    let start = c .before .before .before .before .before .before .before .before .before .before .before .before in
+    let start = c .before .before .before .before .before .before .before .before .before .before .before in
     Reading (start .args .line .now) headerForm 0
 found c =
-    step (c .before .before .before .before .before .before .before .before .before .number-after .ensures)
-    (step (c .before .before .before .before .before .before .before .number-after2 .ensures)
-    (step (c .before .before .before .before .word-after .ensures)
-    (step (c .before .before .number-after3 .ensures)
+    step (c .before .before .before .before .before .before .before .before .number-after .ensures)
+    (step (c .before .before .before .before .before .before .number-after2 .ensures)
+    (step (c .before .before .before .before .number-after3 .ensures)
+    (step (c .before .before .number-after4 .ensures)
     (last (c .skip .ensures)))))
 
 returns : tie.Need-returns
 unfolding headerHeld
-returns c = holds (found (c .before .before)) (λ v. Header (headerWith v)) NoForm (c .before .if1 .taken)
+returns c = holds (found (c .before)) (λ v. Header (headerWith v)) NoForm (c .if1 .taken)
 
 returns-2 : tie.Need-returns-2
 unfolding headerHeld
@@ -31,5 +31,4 @@ pub header-spec : {M : Type 1} → statement M
 header-spec =
     tie.close
     (tie.spec (λ c. search needs) (λ c κs. search needs) (λ c. search needs) (λ c κs. search needs) (λ c. search needs)
-    (λ c. search needs) (λ c κs. search needs) (λ c. search needs) (λ c κs. search needs) (λ c. search needs)
-    (λ c κs. search needs) returns returns-2)
+    (λ c κs. search needs) (λ c. search needs) (λ c κs. search needs) (λ c. search needs) (λ c κs. search needs) returns returns-2)

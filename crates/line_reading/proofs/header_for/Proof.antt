@@ -1,7 +1,7 @@
 -- `header_for` meets its contract.
 use mathlib.Core.Path.{sym, _∙_}
 use borrow.Author.Needs.{needs}
-use borrow.Author.Tests.{not-true, not-false, lt-ltb, le-ltb}
+use borrow.Author.Tests.{not-true, not-false}
 use Rattle.line_forms.specs.Readings.{headerFor}
 use Rattle.line_reading.proofs.header_for.Statement.{statement}
 use Rattle.line_reading.proofs.header_for.Tie as tie
@@ -17,7 +17,7 @@ returns-2 c =
     rw (
       c .before .before .before .before .before .c .given .1,
       sym (c .before .before .before .header .ensures) ∙ not-false _ (c .before .before .if1 .left),
-      lt-ltb _ _ (c .if2 .taken),
+      sym (c .before .over-counted .ensures) ∙ c .if2 .taken,
     )
 
 returns-3 : tie.Need-returns-3
@@ -31,7 +31,7 @@ returns-4 c =
     rw (
       c .before .before .before .before .before .c .given .1,
       sym (c .before .before .before .header .ensures) ∙ not-false _ (c .before .before .if1 .left),
-      le-ltb _ _ (c .if2 .left),
+      sym (c .before .over-counted .ensures) ∙ c .if2 .left,
     )
 
 returns-5 : tie.Need-returns-5
@@ -72,6 +72,7 @@ header-for-spec =
     (λ c. search needs)
     (λ c κs. search needs)
     returns
+    (λ c κs. search needs)
     returns-2
     (λ c. search needs)
     (λ c. search needs)

@@ -33,13 +33,14 @@ returns : tie.Need-returns
 unfolding shareWith numbersWith kindCounts
 returns c =
     rw (
-      c .before .before .before .before .unscored .ensures,
+      c .before .before .before .before .before .unscored .ensures,
+      c .before .before .before .before .fresh .ensures,
       c .before .before .before .no-money .ensures,
       c .before .before .no-money2 .ensures,
       c .before .no-amount .ensures,
       c .no-amount2 .ensures,
-      c .before .before .before .before .before .before .before .charge .ensures,
-      c .before .before .before .before .before .before .before .before .before .before .before .before .before .factor .ensures,
+      c .before .before .before .before .before .before .before .before .charge .ensures,
+      c .before .before .before .before .before .before .before .before .before .before .before .before .before .before .factor .ensures,
     ) refl
 
 pub loan-spec : {M : Type 1} → statement M
@@ -50,6 +51,7 @@ loan-spec =
     mul-value
     mul-over
     charge-requires
+    (λ c κs. search needs)
     (λ c κs. search needs)
     (λ c κs. search needs)
     (λ c κs. search needs)

@@ -1,20 +1,20 @@
 use Rattle.book_model.proofs.Closings.{gives-6, gives-9, gives-0}
-use Rattle.book.proofs.closing_refusal.Statement.{statement}
-use Rattle.book.proofs.closing_refusal.Tie as tie
+use Rattle.limits.proofs.closing_refusal.Statement.{statement}
+use Rattle.limits.proofs.closing_refusal.Tie as tie
 
 returns : tie.Need-returns
 returns c =
-    let a = c .before .before .before .before .before .before .before .before .args in
+    let a = c .before .before .before .before .before .before .before .before .before .before .args in
     gives-6 (a .least) (a .b .header) (a .b .sums .counts) (a .size) (c .if1 .taken)
 
 returns-2 : tie.Need-returns-2
 returns-2 c =
-    let a = c .before .before .before .before .before .before .before .before .before .args in
+    let a = c .before .before .before .before .before .before .before .before .before .before .before .args in
     gives-9 (a .least) (a .b .header) (a .b .sums .counts) (a .size) (c .before .if1 .left) (c .if2 .taken)
 
 returns-3 : tie.Need-returns-3
 returns-3 c =
-    let a = c .before .before .before .before .before .before .before .before .before .args in
+    let a = c .before .before .before .before .before .before .before .before .before .before .before .args in
     gives-0 (a .least) (a .b .header) (a .b .sums .counts) (a .size) (c .before .if1 .left) (c .if2 .left)
 
 pub closing-refusal-spec : {M : Type 1} → statement M
