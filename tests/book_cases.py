@@ -1,15 +1,15 @@
 #!/usr/bin/env python3
 """Lists of calls for `try_book`: opening, feeding and closing, also after refusals and into buffers of several sizes.
 
-A call is one line: `o` and a header line, `f` and a line, `c` or `t` and the size of the buffer that is lent for the report or for
+A call is one line: `o` and a header line, `f` and a line (a mark or a return too), `c` or `t` and the size of the buffer that is lent for the report or for
 the table. Its answer is its letter and the refusal, 0 for none; a closing tells the length too, and then all bytes of the buffer
 of which the lent one is the start, 640 or 8,320, `.` where nothing was written. `n` and numbers set the sheet of credit factors that
 `s` and a header line lends; its answer is how many were read, 67 for more, or `bad` for what is no list of numbers, and then the sheet is empty,
 as it is at first.
 
 The stored lists hold only loans whose two numbers the reference leaves no choice, so that it knows every byte of the answers.
-Further lists (--run) hold any loans: the same lines in two orders, with refused lines between, half of them under a sheet. Their
-reports and tables are compared with the reference, and byte for byte with each other.
+Further lists (--run) hold any loans: the same lines in two orders, and left standing by way of marks and returns, with refused lines between,
+half of them under a sheet. Their reports and tables are compared with the reference, and byte for byte with each other.
 """
 import random
 import re
@@ -26,7 +26,7 @@ from reference.sheet import LENGTH
 # Of each closing the bytes that it asks for, the buffer of which a part is lent, and the sizes that are tried.
 LEAST = {b"c": book.REPORT_BUFFER, b"t": cells.BUFFER}
 BUFFERS = {b"c": 640, b"t": 8_320}
-INPUT = 131_072  # bytes that the program reads
+INPUT = 196_608  # bytes that the program reads
 SIZES = {kind: (0, least - 1, least, least + 1, BUFFERS[kind]) for kind, least in LEAST.items()}
 
 
@@ -133,13 +133,14 @@ def _limit_loans(header):
 
 
 def _refused_lines(source, open_book):
-    """A few lines that a book refuses as it stands, with 1, 2, 7, 3, 5, 11 or 12."""
+    """A few lines that a book refuses as it stands, with 1, 2, 7, 3, 5, 11 or 12, or with 13, 14 or 15."""
     area, month = book_runs.random_place(source)
     set_already = source.sample(sorted(open_book.index.items()), min(1, len(open_book.index)))
     tried = [
         *(book_runs.index(*place, value) for place, first in set_already for value in (first, 7)),
         book_runs.loan_line(source, book_runs.FRESH_SCORE, book_runs.made(month, area)),
         b"x" * 241, b"", b"(claims 01)", book_runs.HEADER[:-1], b"(asset (amount 7) (factor 10001))",
+        *(kind(name) for kind, name in zip((book_runs.mark, book_runs.back), source.sample(book_runs.MARK_NAMES, 2))),
         *(book_runs.loan_line(source, kind) for kind in KINDS),
         line_cases.random_line(source).replace(b"\n", b""),
     ]
@@ -162,9 +163,19 @@ def _lending(sheet):
 
 def _feedings(source, header, lines, sheet=None):
     """The calls of a book in a shuffled order of its lines, with refused lines between."""
+    return _fed_in_turn(source, header, book_runs.another_order(source, lines), sheet)
+
+
+def _by_marks(source, header, lines, sheet=None):
+    """The calls that leave these lines standing by way of marks and returns, with refused lines between."""
+    return _fed_in_turn(source, header, book_runs.by_marks(source, [header, *lines])[1:], sheet)
+
+
+def _fed_in_turn(source, header, ordered, sheet):
+    """The calls of a book fed lines that are taken, with refused lines between."""
     open_book = book.open_book(header, sheet)
     calls = _opening(header, sheet)
-    for line in book_runs.another_order(source, lines):
+    for line in ordered:
         calls += _fed(*_refused_lines(source, open_book))
         assert open_book.feed(line) == 0
         calls.append(b"f" + line)
@@ -196,7 +207,7 @@ def _stored_calls():
     others = [line for line in book_runs.OTHER_KINDS.split(b"\n") if line]
     for _ in range(4):
         calls += _feedings(source, header, loans + others) + [b"c512"]
-    return calls + _table_calls(source, header, loans) + _sheet_calls(source) + _index_calls(source) + _fresh_calls(source)
+    return calls + _table_calls(source, header, loans) + _sheet_calls(source) + _index_calls(source) + _fresh_calls(source) + _mark_calls(source)
 
 
 def _refused_headers(header):
@@ -454,6 +465,173 @@ def _edge_calls():
     return calls + _opening(header) + _fed(_certain_balance(b"785 61", sheets.DISTINCT, header), *_small(None, *[12] * 9)) + CLOSED[:1]
 
 
+def _mark_calls(source):
+    """Calls with marks and returns. Each part of a book that a return must bring back has calls of its own."""
+    fixed = (
+        _restored_sums_calls, _restored_counts_calls, _restored_cells_calls, _restored_index_calls, _later_marks_calls, _own_mark_calls, _refused_mark_calls,
+        _eight_marks_calls, _reopened_marks_calls, _mark_name_calls,
+    )
+    return [call for calls in fixed for call in calls()] + _walk_calls(source) + _loan_walk_calls(source) + _way_calls(source)
+
+
+def _marks(*names):
+    """The calls that set marks: a name in capitals stands for a return to it."""
+    return [b"f" + (book_runs.back(name.lower()) if name.isupper() else book_runs.mark(name)) for name in names]
+
+
+def _restored_sums_calls():
+    """Every sum of the report moved after the mark, by lines of every kind, and back: the report of the lines before it, also the second time."""
+    # each number that a mark keeps of them is above 0: rest and moved have whole cents and parts of one, equity and aoci both signs
+    parted = [b"(policy (class home) (prem 123457) (term 300) (done 5))", b"(asset (amount 12345) (factor 7))"]
+    before = [b"(equity 1000000)", b"(equity -300)", b"(aoci -7)", b"(aoci 900)", b"(b 300000)", b"(c 20000)", *parted, *book_runs.OTHER_KINDS.splitlines()]
+    moving = [
+        [b"(policy (class home) (prem 100000000) (term 300) (done 5))"], [b"(policy (class multi) (prem 100000000) (term 300) (done 5))"],
+        [b"(deriv (kind fx) (cost 70000) (notional 7000000) (months 7) (pays 7) (factor 7000))", b"(lossc 70000)"], [b"(asset (amount 70000) (factor 7000))", b"(claims 70000)"],
+        [b"(equity 70000)", b"(equity -3000)"], [b"(aoci 700)", b"(aoci -30000)"], [b"(b 70000)"], [b"(c 50000)"],
+    ]
+    calls = _opening(book_runs.HEADER[:-1]) + _fed(*before) + _marks(b"sums") + CLOSED[:1]
+    for lines in moving:
+        calls += _fed(*lines) + CLOSED[:1] + _marks(b"SUMS") + CLOSED[:1]
+    every = [line for lines in moving for line in lines]
+    return calls + _fed(*every) + _marks(b"SUMS") + CLOSED[:1] + _fed(*every) + CLOSED[:1]
+
+
+def _restored_counts_calls():
+    """Loans, those without a score and fresh ones counted after the mark have their places free again (5), and are missing at the end (6)."""
+    fresh, aged, unscored = _small(12, 13, None)
+    calls = _opening(book_runs.book_header(3, 1, 1))
+    calls += _fed(aged) + _marks(b"counts") + _fed(fresh, fresh, unscored, unscored, aged) + CLOSED[:1]
+    calls += _marks(b"COUNTS") + CLOSED[:1] + _fed(unscored, unscored) + CLOSED[:1] + _fed(fresh, fresh, aged) + CLOSED[:1]
+    # A return to a full book brings no place.
+    return calls + _marks(b"full") + _fed(aged, b"(b 7)") + _marks(b"FULL") + _fed(aged, unscored, fresh) + CLOSED[:1]
+
+
+def _restored_cells_calls():
+    """The cells: of a loan taken after the mark nothing is left in the table, of those before it all."""
+    bands = [SMALL.replace(b"900 0", b"%d 0" % score) for score in (599, 619, 739, 900)]
+    calls = _opening(book_runs.book_header(2, 0, 2)) + _fed(bands[0]) + _marks(b"cells")
+    for line in bands:
+        calls += _fed(line) + CLOSED[1:] + _marks(b"CELLS")
+    return calls + _fed(bands[3]) + _marks(b"whole") + CLOSED[1:] + _marks(b"WHOLE") + CLOSED[1:] + _marks(b"CELLS") + _fed(bands[2]) + CLOSED
+
+
+def _restored_index_calls():
+    """The index: a value set after the mark is gone, a loan that needs it is 12, and another value may be set and counts; one set before stays (11)."""
+    header, own, december, line = _indexed_loan()
+    other = own.replace(b"9000", b"12000")
+    again = _certain_months(header, (other, december), 20_000_000, 14_000_000, book_runs.made(201003, b"toronto"))
+    calls = _opening(header) + _fed(december) + _marks(b"index") + _fed(own, own, line) + CLOSED + _marks(b"INDEX")
+    calls += _fed(line, december, other, own, again) + CLOSED + _marks(b"INDEX") + _fed(again, own) + _marks(b"later") + _fed(line) + CLOSED
+    calls += _marks(b"LATER") + _fed(own, other, line) + CLOSED
+    # All of the index unset, and set in another place alone.
+    return calls + _opening(header) + _marks(b"none") + _fed(own, december) + _marks(b"NONE") + _fed(*_composite(own, december), line, own, line, december, line) + CLOSED
+
+
+def _later_marks_calls():
+    """A return drops the marks that were set after the one returned to: they cannot be returned to (15), and their names can be set again."""
+    one, two, three, four = _fed(b"(stated 1)", b"(stated 2)", b"(stated 4)", b"(stated 8)")
+    calls = _opening(book_runs.HEADER[:-1]) + [one, *_marks(b"a"), two, *_marks(b"b"), three, *_marks(b"c"), four, *_marks(b"B"), *CLOSED[:1]]
+    calls += [*_marks(b"C", b"c", b"c"), four, *_marks(b"A", b"C", b"B"), *CLOSED[:1]]
+    # The dropped names once more, in another order and with other lines: the last one counts.
+    calls += [four, *_marks(b"c"), three, *_marks(b"b"), two, *_marks(b"C", b"B"), *CLOSED[:1], *_marks(b"A", b"b"), three, *_marks(b"B"), *CLOSED[:1]]
+    return calls + [*_marks(b"A"), *CLOSED[:1]]
+
+
+def _own_mark_calls():
+    """The mark returned to stays: it can be returned to again and again, whatever came in between, and setting it is 13."""
+    one, two, three, four = _fed(b"(stated 1)", b"(stated 2)", b"(stated 4)", b"(stated 8)")
+    calls = _opening(book_runs.HEADER[:-1]) + [one, *_marks(b"a"), two, *_marks(b"A", b"A"), *CLOSED[:1], *_marks(b"a"), three, *_marks(b"A"), *CLOSED[:1]]
+    return calls + [four, *_marks(b"b"), one, *_marks(b"B", b"B", b"b", b"A", b"A"), *CLOSED[:1], *_marks(b"B")]
+
+
+def _refused_mark_calls():
+    """13, 14 and 15 change neither the book nor what is kept under any name; what is no name is 2 first, also at eight marks."""
+    names = book_runs.EIGHT_NAMES
+    calls = _opening(book_runs.HEADER[:-1]) + _marks(b"A") + _fed(b"(stated 1)") + _marks(b"a") + _fed(b"(stated 2)") + _marks(b"a", b"AA", b"A") + CLOSED[:1]
+    for i, name in enumerate(names[1:]):
+        calls += _fed(b"(stated %d)" % 4**i) + _marks(name, b"a", name)
+    calls += _fed(b"(stated 7)") + _marks(b"ninth", *names, b"NINTH") + _fed(b"(mark )", b"(mark Ninth)", b"(back )", b"(mark %s)" % (b"a" * 13)) + CLOSED[:1]
+    calls += _marks(names[-1].upper(), b"ninth") + CLOSED[:1] + _marks(names[-2].upper(), names[-1].upper(), b"ninth", names[-1]) + CLOSED[:1]
+    return calls + _fed(b"(stated 3)") + _marks(b"NINTH") + CLOSED[:1] + _marks(b"A") + CLOSED[:1]
+
+
+def _eight_marks_calls():
+    """Eight marks, at each another loan, index value and sum: to each of them, last first, then to the first; filled up there and closed both ways."""
+    bands = [SMALL.replace(b"900 0", b"%d 0" % score) for score in (599, *range(600, 740, 20))]
+    calls = _opening(book_runs.book_header(8, 0, 8))
+    values = [book_runs.index(area, DECEMBER, 100 + i) for i, area in enumerate(AREAS[:8])]
+    for i, name in enumerate(book_runs.EIGHT_NAMES):
+        calls += _fed(b"(stated %d)" % 2**i, values[i], bands[i]) + _marks(name)
+    for place in (7, 6, 4, 0):
+        # Of the values those up to the mark are set (11).
+        calls += _marks(book_runs.EIGHT_NAMES[place].upper()) + _fed(*values[place : place + 2]) + _fed(*[SMALL] * (7 - place)) + CLOSED
+    return calls + _marks(*(name.upper() for name in book_runs.EIGHT_NAMES))
+
+
+def _reopened_marks_calls():
+    """Nothing is kept after an opening, with a sheet or without, taken or refused; the book of a refused one takes marks too. A closing drops none."""
+    header = book_runs.HEADER[:-1]
+    calls = _opening(header) + _fed(b"(stated 1)") + [b"f" + line for line in book_runs.EIGHT_MARKS]
+    for opening in (_opening(header), _opening(header, sheets.DISTINCT), [b"o"], [b"s(claims 7)"], _opening(header, sheets.LENGTHS[0])):
+        calls += [*opening, *_marks(b"A", b"AA"), *_fed(b"(stated 2)"), *_marks(b"aa", b"a", b"aa"), *_fed(b"(stated 4)"), *CLOSED, *_marks(b"AA"), *CLOSED[:1]]
+    return calls
+
+
+def _mark_name_calls():
+    """Names of 1 and of 12 letters, names that begin alike, that have the same letters, and whose numbers agree in their low bits: each keeps its own book."""
+    names = (b"z", b"zz", b"z" * 11 + b"y", b"z" * 12, b"zzy", b"yzz", line_cases.name_of(2**32 + 26), line_cases.name_of(2**53 + 26))
+    calls = _opening(book_runs.HEADER[:-1])
+    for i, name in enumerate(names):
+        calls += _fed(b"(stated %d)" % 2**i) + _marks(name)
+    for name in reversed(names):
+        calls += _marks(name.upper()) + CLOSED[:1]
+    return calls + _fed(*(kind(name) for name in (b"", b"z" * 13, b"Z", b"z1", b"z z") for kind in (book_runs.mark, book_runs.back)), b"(mark z", b"(mark)", b"(back z")
+
+
+def _walk_calls(source):
+    """Marks, returns and lines of two kinds in any order, many of them refused; closed now and then. Each line tells by its amount whether it stands."""
+    names = (b"a", b"b", b"ab", b"east", b"west", b"north", b"south", b"z", b"zz", b"zzzzzzzzzzzz")
+    calls = _opening(book_runs.HEADER[:-1])
+    for number in range(160):
+        line = source.choice((b"(stated %d)" % 2 ** (number % 36), book_runs.index(source.choice(AREAS[:3]), DECEMBER, number + 1)))
+        name = source.choice(names)
+        calls += _fed(source.choice((line, line, book_runs.mark(name), book_runs.mark(name), book_runs.back(name))))
+        calls += CLOSED[: source.choice((0, 0, 0, 1))]
+    return calls
+
+
+def _loan_walk_calls(source):
+    """The same with small loans, and one that needs the index: the counts tell by 5 and 6, the index by 11 and 12, report and cells by the loans.
+
+    Closed both ways now and then when all loans are there, else for the report.
+    """
+    _, own, december, _ = _indexed_loan()
+    header = book_runs.book_header(2, 1, 1)
+    line = _certain_months(header, (own, december), 20_000_000, 14_000_000, book_runs.made(201003, b"toronto"))
+    calls, open_book = _opening(header), book.open_book(header)
+    steps = [*_small(0, None, None), line, line, own, december, *(kind(name) for name in (b"a", b"b", b"c") for kind in (book_runs.mark, book_runs.back))]
+    for _ in range(120):
+        step = source.choice(steps)
+        open_book.feed(step)
+        calls += _fed(step) + source.choice(([], [], CLOSED[:1] if open_book.closing_refusal() else CLOSED))
+    return calls
+
+
+def _way_calls(source):
+    """The same lines left standing by several ways, with refused lines between, without a sheet and under one."""
+    header = book_runs.book_header(4, 1, 2, 1000)
+    _, own, december, _ = _indexed_loan()
+    loans = [_certain_loan(source, kind, header, sheets.DISTINCT) for kind in KINDS]
+    loans.append(_certain_months(header, (own, december), 20_000_000, 14_000_000, book_runs.made(201003, b"toronto"), sheets.DISTINCT))
+    lines = [own, december, *loans, *book_runs.OTHER_KINDS.splitlines()[4:]]
+    calls = []
+    for sheet in (None, sheets.DISTINCT):
+        calls += _feedings(source, header, lines, sheet) + CLOSED
+        for _ in range(2):
+            calls += _by_marks(source, header, lines, sheet) + CLOSED
+    return calls
+
+
 def _table_calls(source, header, loans):
     """Calls for the table."""
     # Of no book; then of one that has not all its loans: 6 before 9, whatever the buffer.
@@ -485,12 +663,12 @@ def stored_files():
 
 
 def _book_calls(source):
-    """A book, its sheet or None, and calls that make it in two orders; the program reads them whole."""
+    """A book, its sheet or None, and calls that make it in two orders, the second by way of marks and returns; the program reads them whole."""
     while True:
         lines = book_runs.whole_book(source)
         sheet = sheets.kept(source) if source.randrange(2) else None
         closings = [b"%s%d" % (kind, size) for kind in SIZES for size in (LEAST[kind] - 1, source.choice(SIZES[kind][2:]))]
-        calls = [call for _ in range(2) for call in _feedings(source, lines[0], lines[1:], sheet) + closings]
+        calls = [call for way in (_feedings, _by_marks) for call in way(source, lines[0], lines[1:], sheet) + closings]
         if len(_input(calls)) <= INPUT:
             return lines, sheet, calls
 

@@ -4,8 +4,9 @@
 Refusals are compared exactly; the two sums of the loans' numbers lie in the range that the reference allows; every other
 line follows exactly from them; the required amount keeps to its two bounds. With the word `cells` the same bytes are printed, and
 after a report the table: counts and balances exactly, charges within what is allowed, counts and charges adding up to the report's
-loans and total. A book that is not refused is held to two more: its lines in another order print the same bytes, and its two
-sums, and the charge of each cell, are those of the numbers that each of its loans has alone, in a book of its own. Some books are run
+loans and total. A book that is not refused is held to three more: its lines in another order print the same bytes; so do inputs that leave
+these lines standing by way of marks and returns; and its two sums, and the charge of each cell, are those of the numbers that each of its loans
+has alone, in a book of its own. Some books are run
 under a sheet of credit factors, by the words `sheet FILE`, and held to the requirement with that sheet; all others print the same bytes
 under a copy of the built-in table. Besides, the program is run with an input that goes on after a refusal, with a read and with a
 write that fails, with files that are no sheet, and with other words.
@@ -100,6 +101,14 @@ def made(month, area=b"other"):
 
 def index(area, month, value):
     return b"(index %s %d %d)" % (area, month, value)
+
+
+def mark(name):
+    return b"(mark %s)" % name
+
+
+def back(name):
+    return b"(back %s)" % name
 
 
 def counted(loans):
@@ -266,6 +275,175 @@ def _same_prints():
     others = OTHER_KINDS.splitlines()
     values = [index(area, month, 1_000_000) for area in AREAS for month in (FIRST, INDEXED[-1], DECEMBER)]
     yield [[header, *loans, *others], [header, *values, *loans, *others], [header, *loans, *others, *values]]
+
+
+# Names that are alike in their letters, their beginnings, or the low bits of their numbers.
+EIGHT_NAMES = (b"a", b"aa", b"ab", b"ba", b"a" * 12, b"a" * 11 + b"b", b"b" + b"a" * 11, line_cases.name_of(2**32 + 1))
+EIGHT_MARKS = [mark(name) for name in EIGHT_NAMES]
+
+
+def _stated(*numbers):
+    """Lines whose sum tells which of them stand: line i adds 2^i to the report's rest."""
+    return [b"(stated %d)" % 2**number for number in numbers]
+
+
+def _name_inputs():
+    """Names of marks: of every length, of other letters; one that is no name is 2, in a mark and in a return, whatever is kept."""
+    header = HEADER[:-1]
+    for name in (b"a", b"z", b"abcdefghijkl", b"mnopqrstuvwx", b"yz", b"a" * 12, b"z" * 12):
+        yield [header, mark(name)]
+        yield [header, *_stated(0), mark(name), *_stated(1), back(name), *_stated(2)]
+    for name in line_cases.ODD_NAMES:
+        yield [header, mark(name)]
+        yield [header, mark(b"a"), back(name)]
+    # No bracket, no name, two of them; over 240 bytes is 1; at eight marks 2 comes before 14.
+    for line in (b"(mark a", b"mark a)", b"(mark)", b"(mark )", b"(mark a b)", b"(back a", b"(back)", b"(back a a)", b"(mark %s)" % (b"a" * 233), b"(mark %s)" % (b"a" * 234)):
+        yield [header, mark(b"a"), line]
+        yield [header, *EIGHT_MARKS, line, b"x"]
+    # In place of the header.
+    for line in (mark(b"a"), back(b"a"), mark(b"A")):
+        yield [line]
+        yield [line, header]
+
+
+def _kept_inputs():
+    """13, 14 and 15 by what is kept: a name twice, a ninth mark, names that were dropped or never set; marks that are kept at the end."""
+    header = HEADER[:-1]
+    one, two, three, four = _stated(0, 1, 2, 3)
+    a, b, c = map(mark, (b"a", b"b", b"c"))
+    to_a, to_b, to_c = map(back, (b"a", b"b", b"c"))
+    for lines in (
+        (a, a), (a, one, a), (a, one, to_a, a), (a, b, to_a, a), (a, b, to_b, b), (a, b, c, to_b, a), (a, b, c, to_b, b),  # 13
+        (to_a,), (one, to_a), (a, to_b), (a, b, to_c), (mark(b"ab"), to_a), (mark(b"ab"), back(b"abc")), (mark(b"ab"), back(b"ba")),  # 15: never set
+        (a, b, to_a, to_b), (a, b, c, to_b, to_c), (a, b, c, to_a, to_b), (a, b, to_a, b, to_a, to_b), (a, b, c, to_a, c, to_b),  # dropped
+        # Taken: a dropped name once more, the same mark again and again, marks after a return, and marks kept at the end.
+        (a,), (one, a), (a, b, c), (one, a, two, to_a), (one, a, two, to_a, three, to_a, four), (one, a, two, b, three, to_a, b, four),
+        (one, a, two, b, three, to_a, four, b, two, to_b, one), (a, one, b, two, c, three, to_b, four, c, one, to_b, two, to_a, three, b, to_b),
+        (one, a, two, b, three, c, four, to_c, to_b, to_a), (one, a, two, b, three, c, four, to_a), (a, to_a, to_a, one, to_a, two),
+        (a, one, b, two, to_a, b, three, to_b, four),
+    ):
+        yield [header, *lines]
+    # Eight marks: a ninth is 14, a name among the eight 13. After a return to one of them there is room for those that were dropped, and not for one more.
+    ninth = mark(b"ninth")
+    yield [header, *EIGHT_MARKS]
+    yield [header, *EIGHT_MARKS, ninth]
+    yield [header, *EIGHT_MARKS, one, ninth]
+    for place, name in enumerate(EIGHT_NAMES):
+        yield [header, *EIGHT_MARKS, mark(name)]
+        new = [mark(b"n" * (1 + i)) for i in range(7 - place)]
+        lines = [line for pair in zip(_stated(*range(8)), EIGHT_MARKS) for line in pair]
+        yield [header, *lines, back(name), *new, *EIGHT_MARKS[:1]]
+        yield [header, *lines, back(name), *new, ninth]
+        yield [header, *lines, back(name), *new, *_stated(20)]
+        yield [header, *lines, *(back(each) for each in EIGHT_NAMES[:place:-1]), back(name), *_stated(20)]
+        if place:
+            yield [header, *lines, back(EIGHT_NAMES[place - 1]), *_stated(20), back(name)]
+
+
+def _step_inputs():
+    """Every way of up to five steps through two marks, returns to them and lines, as far as it is taken; each ends refused or at the last step."""
+    steps = mark(b"a"), mark(b"b"), back(b"a"), back(b"b"), None
+    ways = [[]]
+    for number in range(5):
+        longer = []
+        for way in ways:
+            for step in steps:
+                lines = [HEADER[:-1], *way, step or _stated(number)[0]]
+                if isinstance(book.run(b"\n".join(lines)), tuple):
+                    yield lines
+                else:
+                    longer.append(lines[1:])
+        ways = longer
+    yield from ([HEADER[:-1], *way] for way in ways)
+
+
+def _restored_inputs():
+    """Counts, index and cells after a return: what the lines withdrawn had taken is free again, and what is short is short."""
+    own, december, other = index(b"toronto", 201003, 9_000), index(b"toronto", DECEMBER, 15_000), index(b"toronto", 201003, 11_000)
+    older = loan(9_000_000, 8_000_000, since=made(201003, b"toronto"))
+    fresh, aged, unscored = LOAN[:-1], AGED[:-1], UNSCORED[:-1]
+    a, to_a = mark(b"a"), back(b"a")
+    # 5 by each of the counts; after the return there is room once more, and for no more than that.
+    for counts, line in (((1, 0, 1), fresh), ((1, 1, 0), unscored), ((1, 0, 0), aged)):
+        header = book_header(*counts)
+        for lines in ((a, line, to_a, line), (a, line, to_a, line, line), (a, line, to_a), (line, a, to_a), (line, a, to_a, line), (a, line, line)):
+            yield [header, *lines]
+    header = book_header(3, 1, 1)
+    for lines in ((aged, a, fresh, unscored, to_a, unscored, fresh), (aged, a, fresh, unscored, to_a, fresh, fresh), (aged, a, fresh, unscored, to_a, unscored, unscored), (aged, a, fresh, unscored, to_a, fresh), (fresh, unscored, a, aged, to_a)):
+        yield [header, *lines]
+    # Loans before the mark on both sides of 0, with the supplement and without: each part of total and supplement is given back.
+    below = b"(loan (bal 100000) (val 140000) (amort 1) (term 1) (score none) (sup 1) (from 201512) (area other))"
+    above = b"(loan (bal 60000000) (val 60000000) (amort 300) (term 300) (score 655 30) (sup 1) (from 201512) (area other))"
+    for lines in ((below, above, a, fresh, to_a, fresh), (below, above, fresh, a, to_a), (below, a, above, to_a, above, fresh), (above, a, below, fresh, to_a, fresh, below)):
+        yield [header, *lines]
+    # The index: a value set after the mark is set no longer, and the same or another may be set; one set before it stays set (11); a loan that needs it is 12.
+    one = book_header(1, 0, 1)
+    for lines in (
+        (december, a, own, to_a, other, older), (december, a, own, to_a, own, older), (december, a, own, older, to_a, other, older), (own, december, a, older, to_a, older),
+        (december, a, own, to_a, older), (a, own, december, older, to_a, older), (a, own, december, to_a, own, older), (own, a, to_a, own), (own, a, to_a, other), (a, own, to_a, own, other),
+        (a, own, mark(b"b"), december, to_a, december, back(b"b")), (a, own, mark(b"b"), december, back(b"b"), december, older, to_a, other, december, older),
+        (a, own, mark(b"b"), december, back(b"b"), other), (a, own, mark(b"b"), december, back(b"b"), older),
+    ):
+        yield [one, *lines]
+
+
+def _full_inputs():
+    """The 100,000 lines that are not loans: neither a mark nor a return is one of them, and only those still standing count, index lines too."""
+    header, full = HEADER[:-1], ALL_OTHERS.splitlines()
+    half, a, to_a = full[: len(full) // 2], mark(b"a"), back(b"a")
+    first, second = index(b"toronto", 201003, 9_000), index(b"toronto", DECEMBER, 15_000)
+    more = b"(c 7)"
+    for lines in (
+        (*full, a, mark(b"b"), to_a), (*full, a, to_a, more), (a, *full, to_a, *full), (a, *full, to_a, *full, more),
+        (*half, a, *half, to_a, *half, to_a, *half, more),
+        # Index lines are counted for themselves: two of them withdrawn and set again, before the last two lines and after the first.
+        (*full[:-2], a, first, second, to_a, second, first), (*full[:-2], a, first, second, to_a, second, first, more),
+        (first, a, second, to_a, *full[:-1]), (first, a, second, to_a, *full[:-1], second), (*full[:-2], first, a, second, to_a, more, second),
+    ):
+        yield [header, *lines]
+
+
+def _mark_inputs():
+    """Inputs with marks and returns; many are refused for one."""
+    yield from (lines for inputs in (_name_inputs, _kept_inputs, _step_inputs, _restored_inputs, _full_inputs) for lines in inputs())
+
+
+def _mark_groups():
+    """Groups of inputs that leave the same lines standing: these lines alone, then ways to them."""
+    fresh, aged, unscored = loan(15_000_000, 20_000_000), loan(16_000_000, 20_000_000, b"700 40"), loan(19_500_000, 20_000_000, b"none")
+    own, december, other = index(b"quebec", FIRST, 9_000), index(b"quebec", DECEMBER, 15_000), index(b"quebec", FIRST, 12_345)
+    older = loan(17_000_000, 11_000_000, b"650 7", since=made(FIRST, b"quebec"))
+    others = OTHER_KINDS.splitlines()
+    header, *_ = _book_of([fresh, aged, unscored, older])
+    a, b, to_a, to_b = mark(b"a"), mark(b"b"), back(b"a"), back(b"b")
+    lines = [own, december, fresh, aged, unscored, older, *others]
+    yield [
+        [header, *lines],
+        [header, a, *lines],  # marks and no return
+        [header, *(line for pair in itertools.zip_longest(lines, EIGHT_MARKS) for line in pair if line)],
+        [header, a, *lines, to_a, *lines[::-1][-2:][::-1], *lines[2:]],
+        [header, a, *lines, to_a, *lines, to_a, *lines],
+        [header, *lines, a, *others, *others, to_a],  # the last file withdrawn
+        [header, a, other, december, older, *others, to_a, *lines],  # an index value that was another
+        [header, december, a, other, older, b, fresh, to_a, own, older, b, *others, unscored, to_b, aged, unscored, *others, fresh],
+        [header, a, fresh, b, aged, mark(b"c"), unscored, to_b, unscored, to_a, own, b, december, *lines[2:6], to_b, *lines[1:]],
+    ]
+    # No line stands: what is withdrawn may be the whole book.
+    none = HEADER[:-1]
+    yield [[none], [none, a], [none, a, *others, own, to_a], [none, a, b, *others, to_b, to_a], [none, a, *others, b, to_b, to_a, b, to_b]]
+    # The same under names at both ends, and however many marks stand between.
+    yield [[none, *_stated(0, 2)]] + [[none, *_stated(0), mark(name), *_stated(1), back(name), *_stated(2)] for name in (*EIGHT_NAMES, b"z" * 12)]
+
+
+# More lines than a book can have of loans, others and its header.
+MANY_LINES = 1_000_000 + book.OTHER_LINES + 100
+
+
+def many_lines(run):
+    """What came out of more returns than a book has loans and other lines: each has its line number, and a refused one after them too."""
+    data = b"\n".join([HEADER[:-1], mark(b"a"), *[back(b"a")] * MANY_LINES, back(b"b")])
+    printed = run(data)
+    return problem((15, MANY_LINES + 3), printed), data, printed
 
 
 def _table_books():
@@ -440,6 +618,7 @@ def _valid_line(source, kind):
             return line
 
 
+OTHERS = ("policy", "deriv", "asset", "claims", "lossc", "stated", "equity", "aoci", "b", "c")  # forms that are neither loans nor index lines
 FRESH_SCORE, AGED_SCORE, NO_SCORE = range(3)  # what a loan counts as
 
 
@@ -488,12 +667,12 @@ def _index_lines(source, places):
 
 
 def another_order(source, lines):
-    """Lines that are taken as they stand, in another order that takes them too: a loan stands after the values that it needs."""
+    """Lines that are taken as they stand, in another order that takes them too: a loan stands after the values that it needs, where they are among them."""
     when, timed = {}, []
     for line in lines:
         form = forms.read_feeding(line)
         needed = house_index.needed(book.loan_values(form)) if book.is_loan(form) else ()
-        time = source.uniform(max((when[place] for place in needed), default=0), 1)
+        time = source.uniform(max((when.get(place, 0) for place in needed), default=0), 1)
         if form.kind == "index":
             when[form.values[:2]] = time
         timed.append((time, line))
@@ -516,11 +695,106 @@ def whole_book(source):
     lines = _index_lines(source, places)
     kinds = [NO_SCORE] * unscored + [FRESH_SCORE] * fresh + [AGED_SCORE] * (loans - unscored - fresh)
     lines += [loan_line(source, kind, _random_since(source, places)) for kind in kinds]
-    others = ["policy", "deriv", "asset", "claims", "lossc", "stated", "equity", "aoci", "b", "c"]
-    lines += [_valid_line(source, source.choice(others)) for _ in range(source.randrange(12))]
+    lines += [_valid_line(source, source.choice(OTHERS)) for _ in range(source.randrange(12))]
     lines = another_order(source, lines)
     held = source.choice((0, 0, 1, 10**6, 10**9, 10**13))
     return [book_header(loans, unscored, fresh, held)] + lines
+
+
+MARK_NAMES = (*EIGHT_NAMES, b"east", b"west", b"north", b"south")
+
+
+class Way:
+    """A way to the lines of a book, which are taken as they stand, by marks and returns; `out` is what was fed so far, with the header."""
+
+    def __init__(self, source, lines):
+        self.source = source
+        self.found = book.open_book(lines[0])
+        self.out = [lines[0]]
+        self.rest = lines[1:]  # what is still to come
+        self.astray = False  # whether lines stand that have to be withdrawn
+        self.noted = {}  # both, as they were at each mark
+
+    def _take(self, line):
+        refusal = self.found.feed(line)
+        assert refusal == 0
+        self.out.append(line)
+
+    def set_mark(self):
+        """A mark under a name that is not kept, which may have been dropped, where there is room."""
+        if len(self.found.marks) < book.MARKS:
+            name = self.source.choice([name for name in MARK_NAMES if name not in self.found.marks])
+            self._take(mark(name))
+            self.noted[name] = self.rest, self.astray
+
+    def _clean(self):
+        """The marks kept at which no line stood that has to be withdrawn."""
+        return [name for name in self.found.marks if not self.noted[name][1]]
+
+    def go_back(self, names=None):
+        """A return to the first, the last or any of these marks, or of all that are kept; what is to come comes in another order then."""
+        names = list(names or self.found.marks)
+        if names:
+            name = self.source.choice((names[0], names[-1], self.source.choice(names)))
+            self._take(back(name))
+            rest, self.astray = self.noted[name]
+            self.rest = another_order(self.source, rest)
+
+    def go_astray(self):
+        """A line that is taken and will be withdrawn, where a mark is kept to which it can be."""
+        area, month = random_place(self.source)
+        later = [line for line in self.rest if line.startswith(b"(index ")]
+        tried = [
+            *(line[: line.rindex(b" ")] + b" %d)" % self.source.randrange(1, 1_000_001) for line in self.source.sample(later, min(2, len(later)))),
+            index(area, month, self.source.randrange(1, 1_000_001)), *self.source.sample(self.rest, min(3, len(self.rest))),
+            loan_line(self.source, self.source.randrange(3)), _valid_line(self.source, self.source.choice(OTHERS)),
+        ]
+        fitting = [line for line in tried if self.found.refusal(line) == 0]
+        if fitting and self._clean():
+            self._take(self.source.choice(fitting))
+            self.astray = True
+
+    def go_on(self):
+        """The next line, or a return where a line stands in its way, or where all lines are there and others too."""
+        if self.rest and self.found.refusal(self.rest[0]) == 0:
+            self._take(self.rest[0])
+            self.rest = self.rest[1:]
+        elif self.astray:
+            self.go_back(self._clean())
+
+
+def by_marks(source, lines):
+    """An input that leaves the lines of a book standing, by way of some marks and returns."""
+    way = Way(source, lines)
+    for _ in range(source.choice((5, 20, 60))):
+        step = source.choice((way.set_mark, way.set_mark, way.go_back, way.go_astray, way.go_astray, way.go_on, way.go_on))
+        step()
+    while way.rest or way.astray:
+        way.go_on()
+    return way.out
+
+
+def _mark_damaged(source, lines):
+    """With a mark or a return left out, a mark of its name after it, under another name or under none; with some marks more; cut short after a return."""
+    places = [i for i, line in enumerate(lines) if line.startswith((b"(mark ", b"(back "))]
+    i = source.choice(places or [len(lines) - 1])
+    kind = source.randrange(7)
+    if kind == 0 and places:
+        del lines[i]
+    elif kind == 1 and places:
+        lines.insert(source.randrange(i + 1, min(i + 9, len(lines) + 1)), lines[i].replace(b"(back ", b"(mark "))
+    elif kind == 2 and places:
+        lines[i] = lines[i][:6] + source.choice(MARK_NAMES) + b")"
+    elif kind == 3:
+        lines[i + 1 : i + 1] = [mark(b"m" * count) for count in range(1, source.randrange(4, 11))]
+    elif kind == 4:
+        lines.insert(source.randrange(1, len(lines) + 1), back(source.choice(MARK_NAMES)))
+    elif kind == 5:
+        lines.insert(i + 1, source.choice((mark, back))(source.choice(line_cases.ODD_NAMES)))
+    else:
+        returns = [i for i in places if lines[i].startswith(b"(back ")]
+        del lines[source.choice(returns or [i]) + 1 :]
+    return lines
 
 
 def _index_damaged(source, lines):
@@ -549,6 +823,15 @@ def _count_damaged(source, lines):
         counts[i] = max(0, counts[i] + source.choice((-1, 1)))
         lines[0] = book_header(*counts)
     return lines
+
+
+def damaged(source, lines):
+    """Lines with one damage: half of them by way of marks and returns before it, and of these half damaged in a mark or a return."""
+    if source.randrange(2):
+        lines = by_marks(source, lines)
+        if source.randrange(2):
+            return _mark_damaged(source, lines)
+    return _damaged(source, lines)
 
 
 def _damaged(source, lines):
@@ -714,6 +997,9 @@ def whole_problem(run, source, lines, report, with_cells):
         return "another report in another order"
     if run(data, CELLS) != with_cells:
         return "another table in another order"
+    data = _joined(source, by_marks(source, lines))
+    if run(data) != report or run(data, CELLS) != with_cells:
+        return f"another report or table by way of marks and returns: {data[:4000]!r}"
     sums = sums_alone(run, lines)
     return None if sums == (*sums_of(report), charges_of(with_cells)) else f"the sums of the loans alone: {sums}"
 
@@ -881,8 +1167,8 @@ def results(run, seed, count):
         if whole:
             yield whole_result(lending, source, lines)
         else:
-            damaged = lines if lending is not run and source.randrange(2) else _damaged(source, lines)
-            yield from given_results(lending, [_joined(source, damaged)])
+            tried = lines if lending is not run and source.randrange(2) else damaged(source, lines)
+            yield from given_results(lending, [_joined(source, tried)])
 
 
 def fixed_results(run):
@@ -893,7 +1179,9 @@ def fixed_results(run):
     yield from (whole_result(run, source, lines) for lines in _index_books())
     yield from (whole_result(run, source, lines) for lines in (*_table_books(), *_fresh_books()))
     yield from given_results(run, (_joined(source, lines) for lines in (*_index_inputs(), *_fresh_inputs())))
-    yield from same_results(run, _same_prints())
+    yield from given_results(run, (_joined(source, lines) for lines in _mark_inputs()))
+    yield many_lines(run)
+    yield from same_results(run, itertools.chain(_same_prints(), _mark_groups()))
     yield from (whole_result(run.under(sheet), source, lines) for lines, sheet in _sheet_books())
     for data, sheet in _sheet_inputs():
         yield from given_results(run.under(sheet), [data])

@@ -6,18 +6,24 @@ accepted. Where it is, `kind` and the nine numbers are what it holds (see `numbe
 """
 import itertools
 import random
+import string
+from collections import namedtuple
 
 import stored
 from reference import forms
 from reference.forms import AREAS, FROM, INDEX, MONEY, Form, Months
 
-KINDS = {"loan": 1, "loan_unscored": 2, "policy": 3, "deriv": 4, "asset": 5, "book": 7, "index": 8}
+KINDS = {"loan": 1, "loan_unscored": 2, "policy": 3, "deriv": 4, "asset": 5, "book": 7, "index": 8, "mark": 9, "back": 10}
 AMOUNTS = ("claims", "lossc", "stated", "equity", "aoci", "b", "c")  # kind 6, numbered from 0
 CLASSES = (b"home", b"multi")
 DERIVATIVES = (b"rate", b"float", b"fx", b"equity", b"metal", b"other")
 NUMBERS = 9
 
-# A form as a list of fields; each field is text, or a range of a number or of a month, or a choice of words.
+Letters = namedtuple("Letters", "least most")  # a word of so many small letters
+LETTERS = string.ascii_lowercase.encode()
+NAME = Letters(1, 12)
+
+# A form as a list of fields; each field is text, or a range of a number or of a month, or a choice of words, or the name of a mark.
 FIELDS = {
     "book": (
         b"(book (loans ", (0, 1_000_000), b") (unscored ", (0, 1), b") (fresh ", (0, 1), b") (held ", (0, 10**13), b"))",
@@ -46,6 +52,8 @@ FIELDS = {
     "aoci": (b"(aoci ", (-MONEY, MONEY), b")"),
     "b": (b"(b ", (0, MONEY), b")"),
     "c": (b"(c ", (0, MONEY), b")"),
+    "mark": (b"(mark ", NAME, b")"),
+    "back": (b"(back ", NAME, b")"),
 }
 ODD_BYTES = b" \t\r\n\0()-+0129azAZ|.\x7f\x80\xa0\xff"
 ODD_NUMBERS = (
@@ -64,6 +72,33 @@ ODD_AREAS = (
     b"gatineau", b"ottawa", b"ottawa-gatineau", b"ottawa gatineau", b"ottawagatineaus", "montr\u00e9al".encode(), "qu\u00e9bec".encode(), b"composite",
     b"canada", b"none", b"others", b"othe", b"otherother", b"11", b"calgary other",
 )
+# Names of marks at both ends of their lengths and of the letters; the same letters in other orders, and names that begin alike.
+NAMES = (
+    b"west", b"a", b"z", b"ab", b"ba", b"az", b"za", b"zz", b"aa", b"abc", b"aab", b"ad", b"bc", b"mark", b"back", b"none", b"abcdefghijkl", b"lkjihgfedcba",
+    b"mnopqrstuvwx", b"yzyzyzyzyzyz", b"a" * 12, b"z" * 12, b"z" * 11, b"a" * 11 + b"b", b"b" + b"a" * 11,
+)
+ODD_NAMES = (
+    b"", b"a" * 13, b"z" * 13, b"a" * 14, LETTERS, b"a" * 100, b"A", b"Z", b"West", b"wesT", b"WEST", b"1", b"0", b"a1", b"1a", b"west2", b"a b", b" a", b"a ", b"a-b", b"a_b", b"a.b",
+    b"a,b", b"a|b", b"a/b", b"'a'", b'"a"', b"(a)", b"a)", b"(a", b"`", b"{", b"a`", b"z{", b"`a", b"{z", b"@", b"[", b"a@", b"a[", b"\xe1", b"a\xe1", "\u00e9".encode(), b"a\0", b"\0a",
+    b"a\t", b"NAME", b"D", b"a" * 6 + b" " + b"a" * 5, b"a" * 11 + b"A", b"a" * 11 + b"1", b"A" + b"a" * 11, b"a" * 12 + b" ", b"a" * 12 + b"1",
+)
+
+
+def number_of(name):
+    """A name as a number, in base 26 with the digits a = 1 to z = 26: no two names have the same."""
+    number = 0
+    for letter in name:
+        number = 26 * number + LETTERS.index(letter) + 1
+    return number
+
+
+def name_of(number):
+    """The name that has this number."""
+    name = b""
+    while number:
+        number, last = divmod(number - 1, 26)
+        name = LETTERS[last : last + 1] + name
+    return name
 
 
 def _signed(x):
@@ -71,13 +106,15 @@ def _signed(x):
 
 
 def numbers_of(form):
-    """The kind and the nine numbers of an accepted line; a word is its place among its choices."""
+    """The kind and the nine numbers of an accepted line; a word is its place among its choices, the name of a mark its number."""
     v = form.values
     if form.kind in ("loan", "loan_unscored"):
         score = v[4:6] if form.kind == "loan" else (0, 0)
         found = v[:4] + score + v[-3:-1] + (AREAS.index(v[-1]),)
     elif form.kind == "index":
         found = (AREAS.index(v[0]),) + v[1:]
+    elif form.kind in ("mark", "back"):
+        found = (number_of(v[0]),)
     elif form.kind == "policy":
         found = (CLASSES.index(v[0]),) + v[1:]
     elif form.kind == "deriv":
@@ -108,6 +145,8 @@ def _choices(field):
         return [field]
     if isinstance(field[0], bytes):
         return list(field)
+    if isinstance(field, Letters):
+        return list(NAMES)
     low, high = field
     if isinstance(field, Months):
         values = [201512, low, high, *MONTHS]
@@ -119,6 +158,8 @@ def _choices(field):
 
 def _odd_texts(field):
     """What is tried in a field besides, most of it no number and no word of it."""
+    if isinstance(field, Letters):
+        return ODD_NAMES
     if not isinstance(field[0], bytes):
         return ODD_NUMBERS + (ODD_MONTHS if isinstance(field, Months) else ())
     near = [
@@ -148,9 +189,17 @@ def _ranges():
             yield b"".join(_choices(f)[min(end, len(_choices(f)) - 1)] for f in fields)
 
 
+def _longest_text(field):
+    if isinstance(field, bytes):
+        return field
+    if isinstance(field, Letters):
+        return b"z" * field.most
+    return max(field, key=len) if isinstance(field[0], bytes) else b"9" * 14
+
+
 def longest(fields):
     """A form with 14 digits for every number and its longest words."""
-    return b"".join(f if isinstance(f, bytes) else max(f, key=len) if isinstance(f[0], bytes) else b"9" * 14 for f in fields)
+    return b"".join(map(_longest_text, fields))
 
 
 def _index_lines():
@@ -165,6 +214,22 @@ def _index_lines():
         yield b"(index %s 7 201512)" % area
         for month in (200412, 200501, 201511, 201512):
             yield ordinary.replace(b"(from 201512) (area calgary)", b"(from %d) (area %s)" % (month, area))
+
+
+def _mark_lines():
+    """Names of every length, with the last letter at every place, and of every single byte; numbers around what 32 and 56 bits hold; other words and shapes."""
+    names = [b"a" * i + b"z" + b"a" * (length - i - 1) for length in range(NAME.least, NAME.most + 2) for i in range(length)]
+    names += [bytes((b,)) for b in range(256)] + [b"a" * 11 + bytes((b,)) for b in range(96, 124)] + [bytes((b,)) + b"z" * 11 for b in range(96, 124)]
+    names += [name_of(base + n) for base in (26, 702, 2**16, 2**32, 2**53, 2**56) for n in (-1, 0, 1, 2)]
+    for name in names:
+        yield b"(mark %s)" % name
+        yield b"(back %s)" % name
+    for line in (
+        b"(mark)", b"(back)", b"(mark )", b"(back )", b"(mark west east)", b"(back west east)", b"(mark west)(back west)", b"(mark (west))", b"(mark (name west))", b"(mark west", b"mark west)",
+        b"(back west", b"(marks west)", b"(mar west)", b"(markwest)", b"(backwest)", b"(bac west)", b"(backs west)", b"(Mark west)", b"(mask west)", b"(return west)", b"(mark 1)", b"(back 1)", b"(west)",
+        b"(mark west 1)", b"(mark west) ", b"(bark west)", b"(mack west)",
+    ):
+        yield line
 
 
 def _header(loans, unscored, fresh, held=0):
@@ -263,6 +328,12 @@ def random_inside(source, field):
     return source.randrange(low, high + 1)
 
 
+def random_name(source, most=NAME.most):
+    """A name of a mark; some have letters of the ends of the alphabet alone."""
+    letters = source.choice((LETTERS, LETTERS, b"az", b"ab"))
+    return bytes(source.choices(letters, k=source.randrange(NAME.least, most + 1)))
+
+
 def random_line(source):
     """A line of some form with numbers of any size, sometimes damaged in up to three places."""
     fields = source.choice(list(FIELDS.values()))
@@ -270,6 +341,8 @@ def random_line(source):
     for field in fields:
         if isinstance(field, bytes):
             out.append(field)
+        elif isinstance(field, Letters):
+            out.append(random_name(source, source.choice((field.most, field.most, field.most + 1))))
         elif isinstance(field[0], bytes):
             out.append(source.choice(field))
         else:
@@ -286,7 +359,7 @@ def random_line(source):
 def stored_files():
     source = random.Random(240)
     random_lines = (random_line(source) for _ in range(1200))
-    lines = itertools.chain(_ranges(), _headers(), _header_shapes(), _index_lines(), _shapes(), _bytes(source), random_lines)
+    lines = itertools.chain(_ranges(), _headers(), _header_shapes(), _index_lines(), _mark_lines(), _shapes(), _bytes(source), random_lines)
     return stored.case_files(case(line) for line in dict.fromkeys(lines))
 
 

@@ -347,6 +347,169 @@ class Fresh(unittest.TestCase):
         self.assertGreater(sum(found.loans > 0 and 10 * found.fresh == 9 * found.loans for found in opened), 20)
 
 
+class Marks(unittest.TestCase):
+    """Request L6, by hand."""
+
+    HEADER = b"(book (loans 3) (unscored 1) (fresh 1) (held 0))"
+    ONE, TWO, THREE, FOUR = (b"(stated %d)" % number for number in (1, 2, 4, 8))
+    FRESH, AGED, UNSCORED = (book_runs.loan(7, 7, score) for score in (b"720 12", b"720 13", b"none"))
+
+    def standing(self, *lines, header=HEADER):
+        """The lines still standing after lines that are all taken."""
+        opened, refusals = fed(header, *lines)
+        self.assertEqual(refusals, [0] * len(lines))
+        return opened.standing_lines()
+
+    def test_names(self):
+        for name in (b"a", b"z", b"west", b"abcdefghijkl", b"zzzzzzzzzzzz"):
+            self.assertEqual(forms.read_feeding(b"(mark %s)" % name), ("mark", (name,)))
+            self.assertEqual(forms.read_feeding(b"(back %s)" % name), ("back", (name,)))
+            self.assertEqual((forms.read_opening(b"(mark %s)" % name), forms.read_opening(b"(back %s)" % name)), (7, 7))
+        for name in (b"", b"abcdefghijklm", b"A", b"West", b"a1", b"1", b"a b", b" a", b"a ", b"a-b", b"a)", "\u00e9".encode(), b"`", b"{", b"NAME"):
+            for word in (b"mark", b"back"):
+                line = b"(%s %s)" % (word, name)
+                self.assertEqual((forms.read_feeding(line), forms.read_opening(line)), (2, 2))
+        for line in (b"(mark)", b"(mark a", b"mark a)", b"(mark a b)", b"(mark a)\n", b"(marks a)", b"(Mark a)", b"(mark %s)" % (b"a" * 233)):
+            self.assertEqual(forms.read_feeding(line), 2)
+        self.assertEqual(forms.read_feeding(b"(mark %s)" % (b"a" * 234)), 1)
+
+    def test_numbers_of_names(self):
+        """a = 1 to z = 26, aa = 27, and so on without a gap; the greatest is that of twelve z."""
+        for name, number in ((b"a", 1), (b"z", 26), (b"aa", 27), (b"az", 52), (b"ba", 53), (b"zz", 702), (b"aaa", 703), (b"z" * 12, 99_246_114_928_149_462)):
+            self.assertEqual((line_cases.number_of(name), line_cases.name_of(number)), (number, name))
+        self.assertEqual([line_cases.number_of(line_cases.name_of(number)) for number in range(1, 20_000)], list(range(1, 20_000)))
+        self.assertEqual(sum(26**length for length in range(1, 13)), 99_246_114_928_149_462)
+
+    def test_return(self):
+        """The lines that stood at the mark stand again; the mark returned to stays, and those set after it are dropped."""
+        a, b, c = (book_runs.mark(name) for name in (b"a", b"b", b"c"))
+        to_a, to_b, to_c = (book_runs.back(name) for name in (b"a", b"b", b"c"))
+        one, two, three, four = self.ONE, self.TWO, self.THREE, self.FOUR
+        for lines, left in (
+            ((a,), ()),
+            ((one, a, two), (one, two)),
+            ((one, a, two, to_a), (one,)),
+            ((one, a, two, to_a, three), (one, three)),
+            ((one, a, two, to_a, three, to_a, four), (one, four)),
+            ((one, a, two, b, three, to_a, four), (one, four)),
+            ((one, a, two, b, three, to_b, four), (one, two, four)),
+            ((one, a, two, b, three, to_b, four, to_a), (one,)),
+            ((one, a, two, b, three, to_a, four, b, two, to_b), (one, four)),  # b once more, after a
+            ((one, a, two, b, three, to_a, four, c, two, to_a, b, three, to_b), (one,)),
+            ((one, a, b, c, two, to_c, to_b, to_a, three), (one, three)),
+            ((one, one, a, one, to_a, one), (one, one, one)),  # a line that is added twice counts twice
+        ):
+            self.assertEqual(self.standing(*lines), list(left))
+
+    def test_refusals(self):
+        """13 for a name that is kept, 14 for a ninth mark, 15 for a return to a name that is not kept; 13 before 14. A refused one changes nothing."""
+        a, b, c = (book_runs.mark(name) for name in (b"a", b"b", b"c"))
+        to_a, to_b, to_c = (book_runs.back(name) for name in (b"a", b"b", b"c"))
+        for lines, refusals in (
+            ((a, a, to_a, a), [0, 13, 0, 13]),
+            ((to_a, a, to_b, to_a), [15, 0, 15, 0]),
+            ((a, b, c, to_b, to_c, c, to_c, b, to_a, to_b, to_c, b), [0, 0, 0, 0, 15, 0, 0, 13, 0, 15, 15, 0]),
+        ):
+            self.assertEqual(fed(self.HEADER, *lines)[1], refusals)
+        opened, refusals = fed(self.HEADER, self.ONE, a, self.TWO, a, self.THREE, to_b, to_a)
+        self.assertEqual((refusals, opened.standing_lines(), list(opened.marks)), ([0, 0, 0, 13, 0, 15, 0], [self.ONE], [b"a"]))
+        eight = book_runs.EIGHT_NAMES
+        self.assertEqual(len(set(eight)), 8)
+        opened, refusals = fed(self.HEADER, *map(book_runs.mark, eight), self.ONE)
+        self.assertEqual(refusals, [0] * 9)
+        self.assertEqual([opened.feed(book_runs.mark(name)) for name in (b"ninth", *eight, b"ninth")], [14, *[13] * 8, 14])
+        self.assertEqual([opened.feed(line) for line in (book_runs.back(b"ninth"), book_runs.back(eight[6]), book_runs.mark(eight[7]), book_runs.mark(b"ninth"))], [15, 0, 0, 14])
+        self.assertEqual([opened.feed(line) for line in (book_runs.back(eight[6]), book_runs.mark(b"ninth"), book_runs.back(eight[7]), book_runs.mark(eight[7]))], [0, 0, 15, 14])
+
+    def test_counts(self):
+        """5 and 8 count the lines still standing, and 6 too; neither a mark nor a return is one of the other lines."""
+        a, to_a = book_runs.mark(b"a"), book_runs.back(b"a")
+        lines = self.AGED, a, self.FRESH, self.FRESH, self.UNSCORED, self.UNSCORED, to_a, self.UNSCORED, self.UNSCORED, self.FRESH, self.FRESH
+        opened, refusals = fed(self.HEADER, *lines)
+        self.assertEqual((refusals, opened.closing_refusal()), ([0, 0, 0, 5, 0, 5, 0, 0, 5, 0, 5], 0))
+        self.assertEqual((opened.loan_count, opened.unscored_count, opened.fresh_count, opened.other_count), (3, 1, 1, 0))
+        self.assertEqual((opened.feed(to_a), opened.closing_refusal(), opened.loan_count), (0, 6, 1))
+        self.assertEqual((opened.unscored_count, opened.fresh_count), (0, 0))
+        for before, after in ((book.OTHER_LINES, 0), (0, book.OTHER_LINES), (book.OTHER_LINES - 1, 1)):
+            header = b"(book (loans 0) (unscored 0) (fresh 0) (held 0))\n"
+            lines = b"(b 0)\n" * before + a + b"\n" + b"(b 0)\n" * after
+            self.assertEqual(book.run(header + lines).other_count, book.OTHER_LINES)
+            self.assertEqual(book.run(header + lines + b"(b 0)\n"), (8, book.OTHER_LINES + 3))
+            self.assertEqual(book.run(header + lines + b"(mark b)\n" + to_a).other_count, before)
+            again = lines + to_a + b"\n" + b"(b 0)\n" * after
+            self.assertEqual(book.run(header + again).other_count, book.OTHER_LINES)
+            self.assertEqual(book.run(header + again + b"(b 0)\n"), (8, book.OTHER_LINES + after + 4))
+
+    def test_index(self):
+        """A value set after the mark is set no longer, and may be set otherwise; one set before it stays."""
+        own, december, other = (book_runs.index(b"toronto", month, value) for month, value in ((201003, 9_000), (201512, 15_000), (201003, 10_000)))
+        a, to_a = book_runs.mark(b"a"), book_runs.back(b"a")
+        older = book_runs.loan(700, 100, since=book_runs.made(201003, b"toronto"))
+        header = b"(book (loans 1) (unscored 0) (fresh 1) (held 0))"
+        opened, refusals = fed(header, december, a, own, older, to_a, older, december, other, own, older)
+        self.assertEqual(refusals, [0, 0, 0, 0, 0, 12, 11, 0, 11, 0])
+        self.assertEqual((opened.index, opened.property_value(opened.taken[-1])), ({(b"toronto", 201512): 15_000, (b"toronto", 201003): 10_000}, F(150)))
+        self.assertEqual((opened.feed(to_a), opened.index, opened.other_count), (0, {(b"toronto", 201512): 15_000}, 1))
+
+    def test_figures(self):
+        """Report, bounds and cells are those of the lines still standing."""
+        small = book_runs.SMALL_LOAN[:-1]
+        header = b"(book (loans 2) (unscored 0) (fresh 2) (held 0))"
+        lines = small, b"(claims 1001)", b"(mark a)", small.replace(b"900 0", b"599 0"), b"(equity 7)", b"(back a)", b"(equity 1000)", small.replace(b"900 0", b"700 0")
+        opened, refusals = fed(header, *lines)
+        plain, _ = fed(header, *lines[:2], *lines[-2:])
+        self.assertEqual(refusals, [0] * len(lines))
+        self.assertEqual(opened.sum_bounds(book_runs.LOAN_DISTANCE), (2, 2, 0, 0))
+        self.assertEqual(opened.figures(2, 0), plain.figures(2, 0))
+        self.assertEqual(opened.exact_requirement(), plain.exact_requirement())
+        charges = [charge for charge, _ in cells.charge_bounds(opened, book_runs.LOAN_DISTANCE)]
+        self.assertEqual([place for place, charge in zip(cells.PLACES, charges) if charge], [(7, 1), (11, 1)])
+        self.assertEqual(cells.text(opened, charges), cells.text(plain, charges))
+
+    def test_run(self):
+        """Marks and returns have line numbers; a header in their place is 7, and marks kept at the end are no reason for a refusal."""
+        none = b"(book (loans 0) (unscored 0) (fresh 0) (held 0))\n"
+        for data, refused in (
+            (b"(mark a)\n" + none, (7, 1)), (b"(back a)\n", (7, 1)), (none + b"(mark a)\n" + none, (7, 3)), (none + b"(mark a)\n(back a)\n(back b)\n", (15, 4)),
+            (none + b"(mark a)\n(mark a)\n", (13, 3)), (none + b"".join(b"(mark %c)\n" % letter for letter in b"abcdefghi"), (14, 10)),
+            (none + b"(mark a)\n" + b"(back a)\n" * 1000 + b"x\n", (2, 1003)),
+        ):
+            self.assertEqual(book.run(data), refused)
+        self.assertEqual(list(book.run(none + b"(mark a)\n(mark b)\n").marks), [b"a", b"b"])
+        one = b"(book (loans 1) (unscored 0) (fresh 1) (held 0))\n(mark a)\n" + book_runs.LOAN
+        self.assertEqual(book.run(one).loan_count, 1)
+        self.assertEqual(book.run(one + b"(back a)"), (6, 5))
+
+    def test_sheet(self):
+        """The sheet, the header and what they choose stay through a return."""
+        opened = book.open_book(self.HEADER, [7] * 66)
+        self.assertEqual([opened.feed(line) for line in (b"(mark a)", self.FRESH, b"(back a)", self.AGED)], [0] * 4)
+        self.assertEqual((opened.sheet, opened.aged, opened.loan_terms(opened.taken[0])[-1]), ((7,) * 66, True, F(7, 100)))
+
+    def test_generated_ways(self):
+        """Ways that the tests generate leave the lines meant; they return to first, middle and last marks, and set dropped names again."""
+        source = random.Random(6)
+        seen = dict.fromkeys(("first", "middle", "last", "again", "eight", "kept"), 0)
+        for _ in range(150):
+            lines = book_runs.whole_book(source)
+            opened, dropped = book.open_book(lines[0]), set()
+            for line in book_runs.by_marks(source, lines)[1:]:
+                before, form = list(opened.marks), forms.read_feeding(line)
+                self.assertEqual(opened.feed(line), 0)
+                if form.kind == "back":
+                    place = before.index(form.values[0])
+                    dropped |= set(before[place + 1 :])
+                    seen["first" if place == 0 else "last" if place == len(before) - 1 else "middle"] += 1
+                seen["again"] += form.kind == "mark" and form.values[0] in dropped
+                seen["eight"] += len(before) < len(opened.marks) == book.MARKS
+            self.assertEqual(sorted(opened.standing_lines()), sorted(lines[1:]))
+            seen["kept"] += bool(opened.marks)
+        self.assertGreater(min(seen.values()), 20)
+        numbers = [found[0] for found in (book.run(b"\n".join(book_runs.damaged(source, book_runs.whole_book(source)))) for _ in range(400)) if isinstance(found, tuple)]
+        for refusal in (13, 14, 15):
+            self.assertGreater(numbers.count(refusal), 3)
+
+
 def changed(numbers, changes):
     """A sheet with other numbers at some places."""
     return [changes.get(place, number) for place, number in enumerate(numbers)]

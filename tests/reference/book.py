@@ -1,5 +1,8 @@
 """The book of document 01: opening, feeding, closing, the report, and the exact requirement.
 
+It keeps the list of lines still standing. A mark notes that list under its name, and a return takes a noted list up again (request L6): nothing
+else is kept of the book at a mark, and counts and index values are found anew from the list.
+
 A loan's two numbers are free within a distance, so the report is computed from given sums of them,
 and `sum_bounds` tells which sums are allowed.
 """
@@ -12,6 +15,7 @@ from . import forms, house_index, loan, sheet as sheets
 from .exponential import combination_bounds
 
 OTHER_LINES = 100_000
+MARKS = 8
 REPORT_BUFFER = 512
 
 # 002, 4.2.1.1: add-ons for a residual maturity of one year or less, to five years, over five years.
@@ -144,7 +148,7 @@ def _allowed_numbers(values, distance):
 
 
 class Book:
-    """The header's values, the sheet of credit factors where one is lent, the forms of the lines taken, and the index values they set."""
+    """The header's values, the sheet of credit factors where one is lent, the lines still standing, each with its form, and the marks that are kept."""
 
     def __init__(self, loans, unscored, fresh, held, sheet=None):
         self.loans = loans
@@ -153,12 +157,29 @@ class Book:
         self.aged = loan.on_aged_table(loans, fresh)
         self.held = held
         self.sheet = None if sheet is None else tuple(sheet)
-        self.taken = []
+        self.marks = {}  # the lists of lines that were noted, by name, in the order in which the marks were set
+        self._take_up([])
+
+    def _take_up(self, standing):
+        """Makes these the lines still standing, and counts them."""
+        self.standing = []
         self.loan_count = 0
         self.unscored_count = 0
         self.fresh_count = 0
         self.other_count = 0
         self.index = {}  # by area and month
+        for line, form in standing:
+            self._add(line, form)
+
+    def _add(self, line, form):
+        """Adds a line at the end of those still standing."""
+        self.loan_count += is_loan(form)
+        self.unscored_count += form.kind == "loan_unscored"
+        self.fresh_count += is_loan(form) and loan.is_fresh(loan_values(form).score)
+        self.other_count += not is_loan(form)
+        if form.kind == "index":
+            self.index[form.values[:2]] = form.values[2]
+        self.standing.append((line, form))
 
     def _loan_refusal(self, form):
         said = loan_values(form)
@@ -173,15 +194,31 @@ class Book:
             return 8
         return 11 if form.kind == "index" and form.values[:2] in self.index else 0
 
+    def _mark_refusal(self, name):
+        if name in self.marks:
+            return 13
+        return 14 if len(self.marks) == MARKS else 0
+
     def _refusal(self, form):
         """Of what was read of a line: a form, or a number where it is refused for itself."""
         if isinstance(form, int):
             return form
+        if form.kind == "mark":
+            return self._mark_refusal(*form.values)
+        if form.kind == "back":
+            return 0 if form.values[0] in self.marks else 15
         return self._loan_refusal(form) if is_loan(form) else self._other_refusal(form)
 
     def refusal(self, line):
         """0 where the book as it stands would take the line, else its refusal."""
         return self._refusal(forms.read_feeding(line))
+
+    def _return_to(self, name):
+        """Takes up the lines noted under a mark again, and drops the marks that were set after it."""
+        names = list(self.marks)
+        for later in names[names.index(name) + 1 :]:
+            del self.marks[later]
+        self._take_up(self.marks[name])
 
     def feed(self, line):
         """0 where the line is taken, else its refusal."""
@@ -189,14 +226,22 @@ class Book:
         refusal = self._refusal(form)
         if refusal:
             return refusal
-        self.loan_count += is_loan(form)
-        self.unscored_count += form.kind == "loan_unscored"
-        self.fresh_count += is_loan(form) and loan.is_fresh(loan_values(form).score)
-        self.other_count += not is_loan(form)
-        if form.kind == "index":
-            self.index[form.values[:2]] = form.values[2]
-        self.taken.append(form)
+        if form.kind == "mark":
+            self.marks[form.values[0]] = list(self.standing)
+        elif form.kind == "back":
+            self._return_to(form.values[0])
+        else:
+            self._add(line, form)
         return 0
+
+    @property
+    def taken(self):
+        """The forms of the lines still standing."""
+        return [form for _, form in self.standing]
+
+    def standing_lines(self):
+        """The lines still standing, as they were written."""
+        return [line for line, _ in self.standing]
 
     def closing_refusal(self, buffer=REPORT_BUFFER, least=REPORT_BUFFER):
         """0 where a text that asks for so many bytes at least can be written into such a buffer, else the refusal."""

@@ -1,9 +1,11 @@
-"""The forms of document 01, "A book, line by line", and of document 02, requests L4 and L5, as regular expressions, with their ranges."""
+"""The forms of document 01, "A book, line by line", and of document 02, requests L4, L5 and L6, as regular expressions, with their ranges."""
 import re
 from collections import namedtuple
+from functools import lru_cache
 
 D = rb"(0|[1-9][0-9]{0,13})"
 S = rb"(0|-?[1-9][0-9]{0,13})"
+NAME = rb"([a-z]{1,12})"  # of a mark
 MONEY = 100_000_000_000
 LONGEST = 240
 
@@ -23,13 +25,12 @@ INDEX = Months(200501, 201512)  # months of the house price index
 
 
 def _compile(text):
-    """A form as the paper prints it: D, S, and choices between upright bars in words."""
+    """A form as the paper prints it: D, S, NAME, and choices between upright bars in words."""
+    written = {b"D": D, b"S": S, b"NAME": NAME}
     out = b""
-    for part in re.split(rb"(\bD\b|\bS\b|[a-z]+(?:\|[a-z]+)+)", text):
-        if part == b"D":
-            out += D
-        elif part == b"S":
-            out += S
+    for part in re.split(rb"(\b(?:D|S|NAME)\b|[a-z]+(?:\|[a-z]+)+)", text):
+        if part in written:
+            out += written[part]
         elif b"|" in part:
             out += b"(" + part + b")"
         else:
@@ -77,6 +78,8 @@ FORMS = [
         ("aoci", b"(aoci S)", ((-MONEY, MONEY),)),
         ("b", b"(b D)", ((0, MONEY),)),
         ("c", b"(c D)", ((0, MONEY),)),
+        ("mark", b"(mark NAME)", (_WORD,)),
+        ("back", b"(back NAME)", (_WORD,)),
     )
 ]
 
@@ -118,8 +121,9 @@ def _read(line, opening):
     return form if in_range else 3
 
 
+@lru_cache(maxsize=1 << 12)
 def read_feeding(line):
-    """What feeding reads before the book's own tests (5 and 12, or 8 and 11): 1, 2, 7, 3, or the form."""
+    """What feeding reads before the book's own tests (5 and 12, 8 and 11, 13 and 14, or 15): 1, 2, 7, 3, or the form."""
     return _read(line, opening=False)
 
 

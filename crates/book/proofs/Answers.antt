@@ -2,11 +2,11 @@
 -- Assumes nothing.
 use mathlib.Core.Path.{_≡_, refl, sym, _∙_, ap, ap₂, subst}
 use mathlib.Core.Bool.{Bool, true, false}
-use mathlib.Core.List.{List}
-use Prim.Native.Nat.{ℕ, _+_}
+use mathlib.Core.List.{List, []}
+use Prim.Native.Nat.{ℕ, suc, _+_}
 use native.Mathlib.Omega.{arith}
 use lib.Dec.{eqb}
-use lib.ListN.{set}
+use lib.ListN.{getD, set}
 use Rattle.exact.specs.Choice.{pick}
 use Rattle.loan_charge.specs.CreditFactor.{builtInRates, ratesOf}
 use Rattle.sheet.specs.Sheet.{sheetPasses}
@@ -16,8 +16,9 @@ use Rattle.line_forms.specs.declared.HeaderLine.{HeaderLine}
 use Rattle.line_forms.specs.declared.HeaderLine.the-variants.{Header as HeaderRead, Refusal as HeaderRefusal}
 use Rattle.line_forms.specs.declared.IndexValue.{IndexValue}
 use Rattle.line_forms.specs.declared.Loan.{Loan}
+use Rattle.line_forms.specs.declared.MarkLine.{MarkLine}
 use Rattle.line_forms.specs.declared.Line.{Line}
-use Rattle.line_forms.specs.declared.Line.the-variants.{Loan as LoanLine, Index as IndexLine, Refusal}
+use Rattle.line_forms.specs.declared.Line.the-variants.{Loan as LoanLine, Index as IndexLine, Mark as MarkRead, Refusal}
 use Rattle.line_forms.specs.Claims.{lineRefusal, lineContent}
 use Rattle.line_forms.specs.Readings.{lineOf, headerOf}
 use Rattle.figures.specs.declared.Counts.{Counts}
@@ -31,33 +32,37 @@ use Rattle.book_model.specs.declared.Opened.{Opened}
 use Rattle.book_model.specs.declared.Fed.{Fed}
 use Rattle.book_model.specs.Accepted.{loanBeyond, loanRefusal, otherRefusal, indexRefusal, refusalFor}
 use Rattle.book_model.specs.Calls.{State, Answer, stateAt, termsIn, basisAt, basisIn, countsOf, openedOf, fedOf, emptyBook, openingFor, opening, refusalIn}
-use Rattle.book_model.specs.Calls.{bookAfter, tableWith, cellsAfter, indexAfter, feedingLine, feeding, SoundBook, Sound}
+use Rattle.book_model.specs.Calls.{bookAfter, tableWith, cellsAfter, indexAfter, stateAfter, marked, rowNamed, backAt, stateMarked, feedingLine, feeding}
+use Rattle.book_model.specs.Calls.{SoundBook, Sound}
 use Rattle.book_model.specs.Cells.{loanBand, ltvWith, cellWith, noCells, withCell, cellsWith, CellsBounded}
 use Rattle.book_model.specs.HouseIndex.{adjustmentOf, lacking, placeFor, valuesAt, noIndex, indexWith, indexLine}
-use Rattle.book_model.specs.LineKinds.{a-loan, another, contentKind, kindOf, kindCounts}
+use Rattle.book_model.specs.LineKinds.{a-loan, another, ofMark, contentKind, kindOf, kindCounts}
+use Rattle.book_model.specs.Marks.{markRefusal, rowOf, bookIn, cellsIn, indexIn, noMarks, freeRow, keptIn, firstMarks}
 use Rattle.book_model.specs.Ranges.{LoanRanges, AdjustmentRanges, CellRanges, Ranged}
 use Rattle.book_model.specs.Share.{share, shareWith, loanShare}
-use Rattle.book_model.specs.Steps.{notOpened, answerWith}
+use Rattle.book_model.specs.Steps.{notOpened, answerWith, partMarked}
 use Rattle.book_model.proofs.Adjustments.{Has, adjustment-ranges}
 use Rattle.book_model.proofs.BoundedShares.{loan-bounded, share-bounded, counted}
 use Rattle.book_model.proofs.Cells.{bounded-wider}
 use Rattle.book_model.proofs.Feeding.{room, book-room, asks, table-hundredths, state-chargeable, cell-ranges, fed-refused, fed-sound, opening-sound}
+use Rattle.book_model.proofs.Feeding.{no-marks-sound, rates-kept}
 use Rattle.book_model.proofs.Near.{rates-chargeable, inputs-chargeable, chargeable}
 use Rattle.book_model.proofs.Openings.{sheet-passes, sheet-fails, header-fails}
 use Rattle.book_model.proofs.Ranged.{ranged, ranged-header}
 
--- Opening with a sheet: l is what was read of the line, and the tables of cells and index values were cleared.
-module _ (sheet line : List ℕ) {l : HeaderLine} (read : l ≡ headerOf line) {cells index : List ℕ} (cleared : cells ≡ noCells) (unset : index ≡ noIndex) where
+-- Opening with a sheet: l is what was read of the line, and the tables of cells, index values and marks were cleared.
+module _ (sheet line : List ℕ) {l : HeaderLine} (read : l ≡ headerOf line) {cells index : List ℕ} {marks : List (List ℕ)} (cleared : cells ≡ noCells)
+    (unset : index ≡ noIndex) (unmarked : marks ≡ noMarks) where
   -- what opening promises of an answer and the tables
   abbrev Promised : Opened → (rates : List ℕ) → Type 0
   Promised r rates =
       (r ≡ openedOf (opening sheet line)) × ((rates ≡ opening sheet line .state .rates) × ((cells ≡ opening sheet line .state .cells)
-      × ((index ≡ opening sheet line .state .index) × Sound (stateAt (r .book) rates cells index))))
+      × ((index ≡ opening sheet line .state .index) × ((marks ≡ opening sheet line .state .marks) × Sound (stateAt (r .book) rates cells index marks)))))
 
-  opened-as : {r : Opened} {rates : List ℕ} → record { refusal = r .refusal; state = stateAt (r .book) rates cells index } ≡ openingFor sheet l →
+  opened-as : {r : Opened} {rates : List ℕ} → record { refusal = r .refusal; state = stateAt (r .book) rates cells index marks } ≡ openingFor sheet l →
       Promised r rates
   opened-as {r} {rates} e =
-      let answer : record { refusal = r .refusal; state = stateAt (r .book) rates cells index } ≡ opening sheet line = e ∙ ap (openingFor sheet) read in (
+      let answer : record { refusal = r .refusal; state = stateAt (r .book) rates cells index marks } ≡ opening sheet line = e ∙ ap (openingFor sheet) read in (
         ap openedOf answer,
         (
           ap (λ (a : Answer). a .state .rates) answer,
@@ -65,7 +70,10 @@ module _ (sheet line : List ℕ) {l : HeaderLine} (read : l ≡ headerOf line) {
             ap (λ (a : Answer). a .state .cells) answer,
             (
               ap (λ (a : Answer). a .state .index) answer,
-              subst (λ (a : Answer). Sound (a .state)) (sym answer) (opening-sound sheet (headerOf line) (ranged-header line)),
+              (
+                ap (λ (a : Answer). a .state .marks) answer,
+                subst (λ (a : Answer). Sound (a .state)) (sym answer) (opening-sound sheet (headerOf line) (ranged-header line)),
+              ),
             ),
           ),
         ),
@@ -74,11 +82,11 @@ module _ (sheet line : List ℕ) {l : HeaderLine} (read : l ≡ headerOf line) {
   pub opened : (h : Header) → l ≡ HeaderRead h → {r : Opened} {rates : List ℕ} → r ≡ openedOf (openingFor sheet (HeaderRead h)) →
       rates ≡ openingFor sheet (HeaderRead h) .state .rates → Promised r rates
   opened h e f g =
-      opened-as ((λ i. record { refusal = f i .refusal; state = stateAt (f i .book) (g i) (cleared i) (unset i) }) ∙ ap (openingFor sheet) (sym e))
+      opened-as ((λ i. record { refusal = f i .refusal; state = stateAt (f i .book) (g i) (cleared i) (unset i) (unmarked i) }) ∙ ap (openingFor sheet) (sym e))
 
   pub not-opened : (n : ℕ) → l ≡ HeaderRefusal n → {r : Opened} {rates : List ℕ} → r ≡ notOpened n → rates ≡ builtInRates → Promised r rates
   not-opened n e f g =
-      opened-as ((λ i. record { refusal = f i .refusal; state = stateAt (f i .book) (g i) (cleared i) (unset i) })
+      opened-as ((λ i. record { refusal = f i .refusal; state = stateAt (f i .book) (g i) (cleared i) (unset i) (unmarked i) })
       ∙ sym (header-fails sheet n) ∙ ap (openingFor sheet) (sym e))
 
 -- Opening under a sheet with a header that was read, whether or not the sheet passes.
@@ -98,9 +106,29 @@ module _ (sheet : List ℕ) (h : Header) {test : Bool} (tested : test ≡ sheetP
       (f ∙ ap openedOf k, g ∙ ap (λ (a : Answer). a .state .rates) k)
 
 -- what feeding a line that was read promises of an answer and the tables
-abbrev pub FedLine : State → Line → Fed → (cells index : List ℕ) → Type 0
-FedLine s l r cells index =
-    (r ≡ fedOf (feedingLine s l)) × ((cells ≡ feedingLine s l .state .cells) × (index ≡ feedingLine s l .state .index))
+abbrev pub FedLine : State → Line → Fed → (cells index : List ℕ) → (marks : List (List ℕ)) → Type 0
+FedLine s l r cells index marks =
+    (r ≡ fedOf (feedingLine s l)) × ((cells ≡ feedingLine s l .state .cells) × ((index ≡ feedingLine s l .state .index)
+    × (marks ≡ feedingLine s l .state .marks)))
+
+-- Marks do not concern a loan.
+pub without-marks : {s : State} → Sound s → Sound (stateAt (s .book) (s .rates) (s .cells) (s .index) noMarks)
+without-marks {s} h = record {
+  book = h .book;
+  rates = h .rates;
+  cells = h .cells;
+  cells-size = h .cells-size;
+  index = h .index;
+  marks = no-marks-sound (s .book .header);
+}
+
+-- a line that is neither a mark nor a return
+abbrev pub Unmarked : Line → Type 1
+Unmarked l = (A : Type 0) (f : MarkLine → A) (x : A) → ofMark f x (lineContent l) ≡ x
+
+answer-of : (s : State) (l : Line) → Unmarked l → record { refusal = refusalIn s l; state = stateAfter s l } ≡ feedingLine s l
+unfolding feedingLine
+answer-of s l u = λ i. record { refusal = refusalIn s l; state = sym (u State (stateMarked (refusalIn s l) s) (stateAfter s l)) i }
 
 -- the refusals that a loan and an index value meet in a state
 abbrev pub loanRefusalIn : State → Loan → ℕ
@@ -119,30 +147,38 @@ plain-counts s l z =
 -- Feeding a line: l is what was read of it.
 module _ (s : State) (line : List ℕ) {l : Line} (read : l ≡ lineOf line) (sound : Sound s) where
   -- what feeding promises of an answer and the tables
-  abbrev Promises : Fed → (cells index : List ℕ) → Type 0
-  Promises r cells index =
+  abbrev Promises : Fed → (cells index : List ℕ) → (marks : List (List ℕ)) → Type 0
+  Promises r cells index marks =
       (r ≡ fedOf (feeding s line)) × ((cells ≡ feeding s line .state .cells) × ((index ≡ feeding s line .state .index)
-      × Sound (stateAt (r .book) (s .rates) cells index)))
+      × ((marks ≡ feeding s line .state .marks) × Sound (stateAt (r .book) (s .rates) cells index marks))))
 
-  fed-as : {r : Fed} {cells index : List ℕ} → record { refusal = r .refusal; state = stateAt (r .book) (s .rates) cells index } ≡ feedingLine s l →
-      Promises r cells index
-  fed-as {r} {cells} {index} e =
-      let answer : record { refusal = r .refusal; state = stateAt (r .book) (s .rates) cells index } ≡ feeding s line = e ∙ ap (feedingLine s) read in (
+  fed-as : {r : Fed} {cells index : List ℕ} {marks : List (List ℕ)} →
+      record { refusal = r .refusal; state = stateAt (r .book) (s .rates) cells index marks } ≡ feedingLine s l → Promises r cells index marks
+  fed-as {r} {cells} {index} {marks} e =
+      let answer : record { refusal = r .refusal; state = stateAt (r .book) (s .rates) cells index marks } ≡ feeding s line = e ∙ ap (feedingLine s) read in (
         ap fedOf answer,
         (
           ap (λ (a : Answer). a .state .cells) answer,
           (
             ap (λ (a : Answer). a .state .index) answer,
-            subst (λ (a : Answer). Sound (a .state)) (sym answer) (fed-sound s (lineOf line) sound (ranged line)),
+            (
+              ap (λ (a : Answer). a .state .marks) answer,
+              subst (λ (a : Answer). Sound (a .state)) (sym answer) (fed-sound s (lineOf line) sound (ranged line)),
+            ),
           ),
         ),
       )
 
-  pub fed : {r : Fed} {cells index : List ℕ} → FedLine s l r cells index → Promises r cells index
-  unfolding feedingLine
-  fed (e, (f, g)) = fed-as (λ i. record { refusal = e i .refusal; state = stateAt (e i .book) (s .rates) (f i) (g i) })
+  pub fed : {r : Fed} {cells index : List ℕ} {marks : List (List ℕ)} → FedLine s l r cells index marks → Promises r cells index marks
+  fed (e, (f, (g, h))) =
+      fed-as ((λ i. record { refusal = e i .refusal; state = stateAt (e i .book) (s .rates) (f i) (g i) (h i) })
+      ∙ (λ i. record {
+        refusal = feedingLine s l .refusal;
+        state = stateAt (feedingLine s l .state .book) (sym (rates-kept s l) i) (feedingLine s l .state .cells) (feedingLine s l .state .index)
+            (feedingLine s l .state .marks);
+      }))
 
-  pub not-fed : (n : ℕ) → l ≡ Refusal n → Promises (record { refusal = n; book = s .book }) (s .cells) (s .index)
+  pub not-fed : (n : ℕ) → l ≡ Refusal n → Promises (record { refusal = n; book = s .book }) (s .cells) (s .index) (s .marks)
   not-fed n e = fed-as (fed-refused s n ∙ ap (feedingLine s) (sym e))
 
 -- a table of which neither case changes a place
@@ -153,36 +189,46 @@ same-either false table = refl
 -- Feeding what was read: a line l of the kind k, with its share.
 module _ (s : State) {read : Line} where
   -- a line that leaves a table as it is
-  pub cells-stay : (l : Line) → cellsWith (basisIn s) (lineContent l) (s .cells) ≡ s .cells → read ≡ l → s .cells ≡ feedingLine s read .state .cells
-  unfolding feedingLine cellsAfter
-  cells-stay l k e =
+  pub cells-stay : (l : Line) → Unmarked l → cellsWith (basisIn s) (lineContent l) (s .cells) ≡ s .cells → read ≡ l →
+      s .cells ≡ feedingLine s read .state .cells
+  unfolding cellsAfter
+  cells-stay l u k e =
       same-either (eqb (refusalIn s l) 0) (s .cells)
       ∙ ap (λ (x : List ℕ). pick (eqb (refusalIn s l) 0) x (s .cells)) (sym k)
-      ∙ ap (λ (x : Line). feedingLine s x .state .cells) (sym e)
+      ∙ ap (λ (a : Answer). a .state .cells) (answer-of s l u) ∙ ap (λ (x : Line). feedingLine s x .state .cells) (sym e)
 
-  index-stays : (l : Line) → indexWith (lineContent l) (s .index) ≡ s .index → read ≡ l → s .index ≡ feedingLine s read .state .index
-  unfolding feedingLine indexAfter
-  index-stays l k e =
+  index-stays : (l : Line) → Unmarked l → indexWith (lineContent l) (s .index) ≡ s .index → read ≡ l → s .index ≡ feedingLine s read .state .index
+  unfolding indexAfter
+  index-stays l u k e =
       same-either (eqb (refusalIn s l) 0) (s .index)
       ∙ ap (λ (x : List ℕ). pick (eqb (refusalIn s l) 0) x (s .index)) (sym k)
-      ∙ ap (λ (x : Line). feedingLine s x .state .index) (sym e)
+      ∙ ap (λ (a : Answer). a .state .index) (answer-of s l u) ∙ ap (λ (x : Line). feedingLine s x .state .index) (sym e)
+
+  marks-stay : (l : Line) → Unmarked l → read ≡ l → s .marks ≡ feedingLine s read .state .marks
+  marks-stay l u e = ap (λ (a : Answer). a .state .marks) (answer-of s l u) ∙ ap (λ (x : Line). feedingLine s x .state .marks) (sym e)
 
   pub loan-fed : (l : Loan) → read ≡ LoanLine l → {r : Fed} {cells : List ℕ} →
       r ≡ answerWith (loanRefusalIn s l) (s .book) (loanShare (basisIn s) l) 0 →
-      cells ≡ tableWith (loanRefusalIn s l) (basisIn s) (loan l) (s .cells) → FedLine s read r cells (s .index)
+      cells ≡ tableWith (loanRefusalIn s l) (basisIn s) (loan l) (s .cells) → FedLine s read r cells (s .index) (s .marks)
   unfolding feedingLine bookAfter cellsAfter refusalFor contentKind share indexWith
   loan-fed l e k m = (
     k ∙ ap (λ (x : Line). fedOf (feedingLine s x)) (sym e),
-    (m ∙ ap (λ (x : Line). feedingLine s x .state .cells) (sym e), index-stays (LoanLine l) refl e),
+    (
+      m ∙ ap (λ (x : Line). feedingLine s x .state .cells) (sym e),
+      (index-stays (LoanLine l) (λ A f x. refl) refl e, marks-stay (LoanLine l) (λ A f x. refl) e),
+    ),
   )
 
   pub index-fed : (i : IndexValue) → read ≡ IndexLine i → {r : Fed} {table : List ℕ} →
       r ≡ answerWith (indexRefusalIn s i) (s .book) noSums 1 →
-      table ≡ pick (eqb (indexRefusalIn s i) 0) (indexWith (indexContent i) (s .index)) (s .index) → FedLine s read r (s .cells) table
+      table ≡ pick (eqb (indexRefusalIn s i) 0) (indexWith (indexContent i) (s .index)) (s .index) → FedLine s read r (s .cells) table (s .marks)
   unfolding feedingLine bookAfter cellsWith indexAfter refusalFor contentKind share
   index-fed i e k m = (
     k ∙ ap (λ (x : Line). fedOf (feedingLine s x)) (sym e),
-    (cells-stay (IndexLine i) refl e, m ∙ ap (λ (x : Line). feedingLine s x .state .index) (sym e)),
+    (
+      cells-stay (IndexLine i) (λ A f x. refl) refl e,
+      (m ∙ ap (λ (x : Line). feedingLine s x .state .index) (sym e), marks-stay (IndexLine i) (λ A f x. refl) e),
+    ),
   )
 
   module _ (l : Line) (other : kindOf l ≡ another) (e : read ≡ l) {x : Sums} (k : x ≡ share (basisIn s) (lineContent l)) where
@@ -193,17 +239,57 @@ module _ (s : State) {read : Line} where
         share-bounded (state-chargeable s h) (lineContent l) (subst (λ (y : Line). Ranged (lineContent y)) e r) has in
         (h .book, rw k b, rw k (plain-counts s l z ∙ ap kindCounts other))
 
-    pub other-fed : cellsWith (basisIn s) (lineContent l) (s .cells) ≡ s .cells → indexWith (lineContent l) (s .index) ≡ s .index →
+    pub other-fed : Unmarked l → cellsWith (basisIn s) (lineContent l) (s .cells) ≡ s .cells → indexWith (lineContent l) (s .index) ≡ s .index →
         indexLine (lineContent l) ≡ 0 → {r : Fed} → r ≡ answerWith (otherRefusal (countsOf (s .book))) (s .book) x 0 →
-        FedLine s read r (s .cells) (s .index)
-    unfolding feedingLine bookAfter refusalFor
-    other-fed n o z m = (
+        FedLine s read r (s .cells) (s .index) (s .marks)
+    unfolding bookAfter refusalFor
+    other-fed u n o z m = (
       m ∙ ap₂ (λ (y : Sums) (i : ℕ). answerWith (otherRefusal (countsOf (s .book))) (s .book) y i) k (sym z)
           ∙ ap (λ (y : ℕ). answerWith y (s .book) (share (basisIn s) (lineContent l)) (indexLine (lineContent l)))
-          (sym (ap (refusalFor (basisIn s) (countsOf (s .book))) other))
+          (sym (ap (refusalFor (basisIn s) (countsOf (s .book)) (keptIn (s .marks))) other))
+          ∙ ap fedOf (answer-of s l u)
           ∙ ap (λ (y : Line). fedOf (feedingLine s y)) (sym e),
-      (cells-stay l n e, index-stays l o e),
+      (cells-stay l u n e, (index-stays l u o e, marks-stay l u e)),
     )
+
+-- Feeding a mark or return: each part as it keeps or restores it.
+module _ (s : State) (m : MarkLine) where
+  abbrev row : List ℕ
+  row = getD (s .marks) (rowNamed s (m .name)) []
+
+  -- the state after it, part by part
+  by-parts : (n : ℕ) →
+      stateAt (partMarked n m (bookIn (s .book .header) row) (s .book) (s .book)) (s .rates) (partMarked n m (cellsIn row) (s .cells) (s .cells))
+      (partMarked n m (indexIn row) (s .index) (s .index))
+      (partMarked n m (firstMarks (suc (rowNamed s (m .name))) (s .marks))
+      (set (s .marks) (freeRow (s .marks)) (rowOf (m .name) (s .book) (s .cells) (s .index))) (s .marks)) ≡ stateMarked n s m
+  unfolding stateMarked
+  by-parts n = go (eqb n 0) (m .back)
+    where
+      go : (test back : Bool) →
+          stateAt (pick test (pick back (bookIn (s .book .header) row) (s .book)) (s .book)) (s .rates)
+          (pick test (pick back (cellsIn row) (s .cells)) (s .cells)) (pick test (pick back (indexIn row) (s .index)) (s .index))
+          (pick test (pick back (firstMarks (suc (rowNamed s (m .name))) (s .marks))
+          (set (s .marks) (freeRow (s .marks)) (rowOf (m .name) (s .book) (s .cells) (s .index)))) (s .marks)) ≡
+          pick test (pick back (backAt s (rowNamed s (m .name))) (marked s (m .name))) s
+      go true true = refl
+      go true false = refl
+      go false back = refl
+
+  pub mark-fed : {read : Line} → read ≡ MarkRead m → {r : Fed} {cells index : List ℕ} {marks : List (List ℕ)} →
+      r .refusal ≡ markRefusal (keptIn (s .marks)) m → r .book ≡ partMarked (r .refusal) m (bookIn (s .book .header) row) (s .book) (s .book) →
+      cells ≡ partMarked (r .refusal) m (cellsIn row) (s .cells) (s .cells) → index ≡ partMarked (r .refusal) m (indexIn row) (s .index) (s .index) →
+      marks ≡ partMarked (r .refusal) m (firstMarks (suc (rowNamed s (m .name))) (s .marks))
+      (set (s .marks) (freeRow (s .marks)) (rowOf (m .name) (s .book) (s .cells) (s .index))) (s .marks) → FedLine s read r cells index marks
+  unfolding feedingLine refusalFor contentKind
+  mark-fed e {r} n b c i k =
+      let answer : record { refusal = r .refusal; state = stateAt (r .book) (s .rates) _ _ _ } ≡ feedingLine s (MarkRead m) =
+      (λ j. record { refusal = r .refusal; state = stateAt (b j) (s .rates) (c j) (i j) (k j) })
+      ∙ (λ j. record { refusal = n j; state = by-parts (n j) j }) in
+      let whole = answer ∙ ap (feedingLine s) (sym e) in (
+        ap fedOf whole,
+        (ap (λ (a : Answer). a .state .cells) whole, (ap (λ (a : Answer). a .state .index) whole, ap (λ (a : Answer). a .state .marks) whole)),
+      )
 
 -- Adding a line that a test refuses with the number n, or does not.
 module _ (test : Bool) (n : ℕ) (b : Book) (x : Sums) where
@@ -258,7 +344,7 @@ module _ (s : State) (l : Loan) {beyond : Bool} (test : beyond ≡ loanBeyond (s
         loan-asks h r =
             rw share-is
             (asks 0 (h .book) (loan-bounded (termsIn s) (adjustmentOf (valuesAt (s .index)) l) l (chargeable (state-chargeable s h) l r has))
-            (room (basisIn s) (countsOf (s .book)) (a-loan l) (book-room (h .book)) not-refused))
+            (room (basisIn s) (countsOf (s .book)) (keptIn (s .marks)) (a-loan l) (book-room (h .book)) not-refused))
 
         -- what adding it to its cell asks
         pub cell-asks : Sound s → LoanRanges l → CellsBounded (s .cells) 4000000 × CellRanges (record { count = 1; balance = l .balance; charge = x .total })
@@ -284,7 +370,7 @@ pub other-asks : (b : Book) (x : Sums) → SoundBook b → Bounded x → x .coun
     × Bounded x × InLimits (plus (b .sums) x)
 unfolding refusalFor kindCounts
 other-asks b x h k c e =
-    asks 0 h k (rw c (room (basisAt (b .header) builtInRates noIndex) (countsOf b) another (book-room h) e))
+    asks 0 h k (rw c (room (basisAt (b .header) builtInRates noIndex) (countsOf b) (keptIn noMarks) another (book-room h) e))
 
 -- Adding an index value: the book may be full, or have one for its area and month.
 module _ (b : Book) (table : List ℕ) (i : IndexValue) where

@@ -17,6 +17,7 @@ ghost use Rattle.book_model.specs.Calls.{SoundBook, Sound};
 ghost use Rattle.book_model.specs.Calls.{reportSize, reportOf, closing, closed, closingCells, closedCells};
 ghost use Rattle.book_model.specs.HouseIndex.{adjustmentOf, valuesAt, indexWith};
 ghost use Rattle.book_model.specs.LineKinds.{another, kindCounts};
+ghost use Rattle.book_model.specs.Marks.{noMarks};
 ghost use Rattle.book_model.specs.Ranges.{Ranged, LoanRanges, IndexRanges};
 ghost use Rattle.book_model.specs.Share.{loanShare};
 ghost use Rattle.book_model.specs.Steps.{notOpened, answerWith};
@@ -36,6 +37,7 @@ use line_forms::Line;
 use line_forms::Loan;
 use loan_charge::charge::Exponentials;
 use loan_charge::credit::Rates;
+use marks::Marks;
 
 // A report buffer has at least so many bytes.
 const REPORT_SIZE: usize = 512;
@@ -92,23 +94,26 @@ fn open_under(header: Header, sheet: &[u64], rates: &mut Rates) -> Opened
     refused(10, rates)
 }
 
-// A header line and a lent sheet of factors open a book (02, L3). The tables of rates, cells and index values are lent with it from here on:
-// the rates become the sheet's, or the regulator's where the opening is refused, and the other two are cleared.
+// A header line and a lent sheet of factors open a book (02, L3). The tables of rates, cells, index values and marks are lent with it from here
+// on: the rates become the sheet's, or the regulator's where the opening is refused, and the other three are cleared.
 pub fn open_sheet(
     line: &[u8],
     sheet: &[u64],
     rates: &mut Rates,
     cells: &mut Cells,
     index: &mut Index,
+    marks: &mut Marks,
 ) -> Opened
     ensures equation { λ r. ⌜ r ≡ openedOf (opening (now (sheet .entry)) (now (line .entry))) ⌝ }
     ensures rates { λ r. ⌜ now (rates .exit) ≡ opening (now (sheet .entry)) (now (line .entry)) .state .rates ⌝ }
     ensures cells { λ r. ⌜ now (cells .exit) ≡ opening (now (sheet .entry)) (now (line .entry)) .state .cells ⌝ }
     ensures index { λ r. ⌜ now (index .exit) ≡ opening (now (sheet .entry)) (now (line .entry)) .state .index ⌝ }
-    ensures sound { λ r. ⌜ Sound (stateAt (r .book) (now (rates .exit)) (now (cells .exit)) (now (index .exit))) ⌝ }
+    ensures marks { λ r. ⌜ now (marks .exit) ≡ opening (now (sheet .entry)) (now (line .entry)) .state .marks ⌝ }
+    ensures sound { λ r. ⌜ Sound (stateAt (r .book) (now (rates .exit)) (now (cells .exit)) (now (index .exit)) (now (marks .exit))) ⌝ }
 {
     cells::clear(cells);
     house_index::clear(index);
+    marks::clear(marks);
     let read = line_reading::read_header(line);
     match read {
         HeaderLine::Header(header) => open_under(header, sheet, rates),
@@ -117,15 +122,22 @@ pub fn open_sheet(
 }
 
 // A header line opens a book under the regulator's table.
-pub fn open(line: &[u8], rates: &mut Rates, cells: &mut Cells, index: &mut Index) -> Opened
+pub fn open(
+    line: &[u8],
+    rates: &mut Rates,
+    cells: &mut Cells,
+    index: &mut Index,
+    marks: &mut Marks,
+) -> Opened
     ensures equation { λ r. ⌜ r ≡ openedOf (opening builtInSheet (now (line .entry))) ⌝ }
     ensures rates { λ r. ⌜ now (rates .exit) ≡ opening builtInSheet (now (line .entry)) .state .rates ⌝ }
     ensures cells { λ r. ⌜ now (cells .exit) ≡ opening builtInSheet (now (line .entry)) .state .cells ⌝ }
     ensures index { λ r. ⌜ now (index .exit) ≡ opening builtInSheet (now (line .entry)) .state .index ⌝ }
-    ensures sound { λ r. ⌜ Sound (stateAt (r .book) (now (rates .exit)) (now (cells .exit)) (now (index .exit))) ⌝ }
+    ensures marks { λ r. ⌜ now (marks .exit) ≡ opening builtInSheet (now (line .entry)) .state .marks ⌝ }
+    ensures sound { λ r. ⌜ Sound (stateAt (r .book) (now (rates .exit)) (now (cells .exit)) (now (index .exit)) (now (marks .exit))) ⌝ }
 {
     let sheet = sheet::built_in();
-    open_sheet(line, &sheet, rates, cells, index)
+    open_sheet(line, &sheet, rates, cells, index, marks)
 }
 
 // A book with a line's share added.
@@ -190,6 +202,7 @@ fn add_index(b: Book, index: &mut Index, i: IndexValue) -> Fed
     Fed { refusal: 0, book }
 }
 
+// Marks do not concern it: it asks for a sound book with none.
 fn add_loan(
     b: Book,
     exps: &Exponentials,
@@ -198,7 +211,7 @@ fn add_loan(
     index: &Index,
     l: Loan,
 ) -> Fed
-    requires { ⌜ Sound (stateAt b (now rates) (now cells) (now index)) × LoanRanges l × (now exps ≡ exponentials) ⌝ }
+    requires { ⌜ Sound (stateAt b (now rates) (now cells) (now index) noMarks) × LoanRanges l × (now exps ≡ exponentials) ⌝ }
     ensures equation { λ r.
         ⌜ r ≡
         answerWith (loanRefusal (b .header) (countsOf b) (adjustmentOf (valuesAt (now (index .entry))) l) (l .score)) b
@@ -243,14 +256,17 @@ fn feed_line(
     rates: &Rates,
     cells: &mut Cells,
     index: &mut Index,
+    marks: &mut Marks,
     line: Line,
 ) -> Fed
-    requires { ⌜ Sound (stateAt b (now rates) (now cells) (now index)) × Ranged (lineContent line) × (now exps ≡ exponentials) ⌝ }
-    ensures equation { λ r. ⌜ r ≡ fedOf (feedingLine (stateAt b (now (rates .entry)) (now (cells .entry)) (now (index .entry))) line) ⌝ }
+    requires { ⌜ Sound (stateAt b (now rates) (now cells) (now index) (now marks)) × Ranged (lineContent line) × (now exps ≡ exponentials) ⌝ }
+    ensures equation { λ r. ⌜ r ≡ fedOf (feedingLine (stateAt b (now (rates .entry)) (now (cells .entry)) (now (index .entry)) (now (marks .entry))) line) ⌝ }
     ensures cells { λ r.
-        ⌜ now (cells .exit) ≡ feedingLine (stateAt b (now (rates .entry)) (now (cells .entry)) (now (index .entry))) line .state .cells ⌝ }
+        ⌜ now (cells .exit) ≡ feedingLine (stateAt b (now (rates .entry)) (now (cells .entry)) (now (index .entry)) (now (marks .entry))) line .state .cells ⌝ }
     ensures index { λ r.
-        ⌜ now (index .exit) ≡ feedingLine (stateAt b (now (rates .entry)) (now (cells .entry)) (now (index .entry))) line .state .index ⌝ }
+        ⌜ now (index .exit) ≡ feedingLine (stateAt b (now (rates .entry)) (now (cells .entry)) (now (index .entry)) (now (marks .entry))) line .state .index ⌝ }
+    ensures marks { λ r.
+        ⌜ now (marks .exit) ≡ feedingLine (stateAt b (now (rates .entry)) (now (cells .entry)) (now (index .entry)) (now (marks .entry))) line .state .marks ⌝ }
 {
     match line {
         Line::Loan(l) => add_loan(b, exps, rates, cells, index, l),
@@ -266,6 +282,7 @@ fn feed_line(
             add_other(b, shares::amount(item, x))
         }
         Line::Index(i) => add_index(b, index, i),
+        Line::Mark(m) => marks::feed(b, cells, index, marks, m),
         Line::Refusal(refusal) => Fed { refusal, book: b },
     }
 }
@@ -277,35 +294,55 @@ pub fn feed_with(
     rates: &Rates,
     cells: &mut Cells,
     index: &mut Index,
+    marks: &mut Marks,
     line: &[u8],
 ) -> Fed
-    requires { ⌜ Sound (stateAt b (now rates) (now cells) (now index)) × (now exps ≡ exponentials) ⌝ }
-    ensures equation { λ r. ⌜ r ≡ fedOf (feeding (stateAt b (now (rates .entry)) (now (cells .entry)) (now (index .entry))) (now (line .entry))) ⌝ }
+    requires { ⌜ Sound (stateAt b (now rates) (now cells) (now index) (now marks)) × (now exps ≡ exponentials) ⌝ }
+    ensures equation { λ r. ⌜ r ≡ fedOf (feeding (stateAt b (now (rates .entry)) (now (cells .entry)) (now (index .entry)) (now (marks .entry)))
+        (now (line .entry))) ⌝ }
     ensures cells { λ r.
-        ⌜ now (cells .exit) ≡ feeding (stateAt b (now (rates .entry)) (now (cells .entry)) (now (index .entry))) (now (line .entry)) .state .cells ⌝ }
+        ⌜ now (cells .exit) ≡ feeding (stateAt b (now (rates .entry)) (now (cells .entry)) (now (index .entry)) (now (marks .entry)))
+        (now (line .entry)) .state .cells ⌝ }
     ensures index { λ r.
-        ⌜ now (index .exit) ≡ feeding (stateAt b (now (rates .entry)) (now (cells .entry)) (now (index .entry))) (now (line .entry)) .state .index ⌝ }
-    ensures sound { λ r. ⌜ Sound (stateAt (r .book) (now (rates .entry)) (now (cells .exit)) (now (index .exit))) ⌝ }
+        ⌜ now (index .exit) ≡ feeding (stateAt b (now (rates .entry)) (now (cells .entry)) (now (index .entry)) (now (marks .entry)))
+        (now (line .entry)) .state .index ⌝ }
+    ensures marks { λ r.
+        ⌜ now (marks .exit) ≡ feeding (stateAt b (now (rates .entry)) (now (cells .entry)) (now (index .entry)) (now (marks .entry)))
+        (now (line .entry)) .state .marks ⌝ }
+    ensures sound { λ r. ⌜ Sound (stateAt (r .book) (now (rates .entry)) (now (cells .exit)) (now (index .exit)) (now (marks .exit))) ⌝ }
 {
     let read = line_reading::read_line(line);
     let Line::Refusal(refusal) = read else {
-        return feed_line(b, exps, rates, cells, index, read);
+        return feed_line(b, exps, rates, cells, index, marks, read);
     };
     Fed { refusal, book: b }
 }
 
 // A line is fed to a book, with the tables that its opening and the feedings since left.
-pub fn feed(b: Book, rates: &Rates, cells: &mut Cells, index: &mut Index, line: &[u8]) -> Fed
-    requires { ⌜ Sound (stateAt b (now rates) (now cells) (now index)) ⌝ }
-    ensures equation { λ r. ⌜ r ≡ fedOf (feeding (stateAt b (now (rates .entry)) (now (cells .entry)) (now (index .entry))) (now (line .entry))) ⌝ }
+pub fn feed(
+    b: Book,
+    rates: &Rates,
+    cells: &mut Cells,
+    index: &mut Index,
+    marks: &mut Marks,
+    line: &[u8],
+) -> Fed
+    requires { ⌜ Sound (stateAt b (now rates) (now cells) (now index) (now marks)) ⌝ }
+    ensures equation { λ r. ⌜ r ≡ fedOf (feeding (stateAt b (now (rates .entry)) (now (cells .entry)) (now (index .entry)) (now (marks .entry)))
+        (now (line .entry))) ⌝ }
     ensures cells { λ r.
-        ⌜ now (cells .exit) ≡ feeding (stateAt b (now (rates .entry)) (now (cells .entry)) (now (index .entry))) (now (line .entry)) .state .cells ⌝ }
+        ⌜ now (cells .exit) ≡ feeding (stateAt b (now (rates .entry)) (now (cells .entry)) (now (index .entry)) (now (marks .entry)))
+        (now (line .entry)) .state .cells ⌝ }
     ensures index { λ r.
-        ⌜ now (index .exit) ≡ feeding (stateAt b (now (rates .entry)) (now (cells .entry)) (now (index .entry))) (now (line .entry)) .state .index ⌝ }
-    ensures sound { λ r. ⌜ Sound (stateAt (r .book) (now (rates .entry)) (now (cells .exit)) (now (index .exit))) ⌝ }
+        ⌜ now (index .exit) ≡ feeding (stateAt b (now (rates .entry)) (now (cells .entry)) (now (index .entry)) (now (marks .entry)))
+        (now (line .entry)) .state .index ⌝ }
+    ensures marks { λ r.
+        ⌜ now (marks .exit) ≡ feeding (stateAt b (now (rates .entry)) (now (cells .entry)) (now (index .entry)) (now (marks .entry)))
+        (now (line .entry)) .state .marks ⌝ }
+    ensures sound { λ r. ⌜ Sound (stateAt (r .book) (now (rates .entry)) (now (cells .exit)) (now (index .exit)) (now (marks .exit))) ⌝ }
 {
     let exps = loan_charge::charge::table();
-    feed_with(b, &exps, rates, cells, index, line)
+    feed_with(b, &exps, rates, cells, index, marks, line)
 }
 
 // The report of a book.

@@ -13,19 +13,24 @@ use Rattle.exact.specs.Fraction.{quotient, whole, _⊗_, Equals}
 use Rattle.loan_charge.specs.Computation.{chargeOf}
 use Rattle.line_forms.specs.declared.IndexValue.{IndexValue}
 use Rattle.line_forms.specs.declared.Loan.{Loan}
-use Rattle.line_forms.specs.declared.Content.the-variants.{Loan as loan, Index as index}
+use Rattle.line_forms.specs.declared.Content.the-variants.{Loan as loan, Index as index, Mark as mark}
+use Rattle.line_forms.specs.declared.MarkLine.{MarkLine}
+use Rattle.line_forms.specs.declared.Content.{Content}
 use Rattle.line_forms.specs.Claims.{ShowsInRange, lineContent}
 use Rattle.line_forms.specs.Readings.{lineOf}
 use Rattle.book_model.specs.declared.Adjustment.{Adjustment}
-use Rattle.book_model.specs.Accepted.{refusalOf, accept}
+use Rattle.book_model.specs.Accepted.{Accepted, refusalOf, takenUp, noted, added, withMark, accept}
 use Rattle.book_model.specs.AdjustedValues.{AdjustedRatio, AdjustedValues}
-use Rattle.book_model.specs.Demand2.{Indexed, IsSet}
+use Rattle.book_model.specs.Demand2.{Indexed, IsSet, IsReturn}
 use Rattle.book_model.specs.History.{History, fed, allFed, termsOf, acceptedOf, linesTaken}
 use Rattle.book_model.specs.HouseIndex.{Index, isIndexed, adjustmentOf, lacking, valuesIn}
+use Rattle.book_model.specs.LineKinds.{ofMark}
 use Rattle.book_model.specs.Share.{numbersWith, loanNumbers}
 use Rattle.book_model.specs.Terms.{Basis, factorFor, loanInputs}
 use Rattle.book_model.proofs.Adjustments.{Settled, Extends, adjusted-alike, indexed-is, kept-is, loan-has}
 use Rattle.book_model.proofs.Ledger.{values-stay, good-of}
+use Rattle.book_model.proofs.MarkRows.{HeldMark, a-mark, no-mark, held-mark}
+use Rattle.book_model.proofs.Notes.{mark-shown}
 use Rattle.book_model.proofs.SetValues.{is-set, is-indexed, values-set, index-content, loan-content}
 
 -- The value is that of the line taken.
@@ -46,22 +51,38 @@ values past area month value h = (
       good-of past .once s i m (index-content s i k),
 )
 
--- One line more, taken or not, leaves every value that is set.
-stays-fed : (past : History) (s : List ℕ) → Extends (valuesIn (linesTaken past)) (valuesIn (linesTaken (fed past s)))
+-- One line more that is no return, taken or not, leaves every value that is set.
+stays-fed : (past : History) (s : List ℕ) → (IsReturn s → ⊥) → Extends (valuesIn (linesTaken past)) (valuesIn (linesTaken (fed past s)))
 unfolding acceptedOf accept
-stays-fed past s area month h = go (eqb (refusalOf (termsOf past) (acceptedOf past) s) 0) refl
+stays-fed past s r area month h = go (eqb (refusalOf (termsOf past) (acceptedOf past) s) 0) refl
   where
-    go : (t : Bool) → eqb (refusalOf (termsOf past) (acceptedOf past) s) 0 ≡ t →
-        valuesIn (pick t (linesTaken past ++ (s ∷ [])) (linesTaken past)) area month ≡ valuesIn (linesTaken past) area month
-    go true e = values-stay (termsOf past) (acceptedOf past) s (eqb-true (refusalOf (termsOf past) (acceptedOf past) s) 0 e) area month h
+    a : Accepted
+    a = acceptedOf past
+
+    marked : (m : MarkLine) → lineContent (lineOf s) ≡ mark m → (back : Bool) → m .back ≡ back →
+        valuesIn (pick back (takenUp a (m .name)) (noted a (m .name)) .kept) area month ≡ valuesIn (a .kept) area month
+    marked m e true b =
+        absurd (r (m .name, subst (λ (x : Bool). ShowsInRange s (mark (record { back = x; name = m .name }))) b (mark-shown s m e)))
+    marked m e false b = refl
+
+    of-either : {c : Content} → HeldMark c → lineContent (lineOf s) ≡ c → refusalOf (termsOf past) a s ≡ 0 →
+        valuesIn (ofMark (withMark a) (added a s) c .kept) area month ≡ valuesIn (a .kept) area month
+    of-either (a-mark m) e z = marked m e (m .back) refl
+    of-either (no-mark k) e z =
+        ap (λ (x : Accepted). valuesIn (x .kept) area month) (k Accepted (withMark a) (added a s)) ∙ values-stay (termsOf past) a s z area month h
+
+    go : (t : Bool) → eqb (refusalOf (termsOf past) a s) 0 ≡ t →
+        valuesIn (pick t (ofMark (withMark a) (added a s) (lineContent (lineOf s))) a .kept) area month ≡ valuesIn (a .kept) area month
+    go true e = of-either (held-mark (lineContent (lineOf s))) refl (eqb-true (refusalOf (termsOf past) a s) 0 e)
     go false e = refl
 
-stays : (past : History) (lines : List (List ℕ)) → Extends (valuesIn (linesTaken past)) (valuesIn (linesTaken (allFed past lines)))
+stays : (past : History) (lines : List (List ℕ)) → ((s : List ℕ) → List·Memᴰ s lines → IsReturn s → ⊥) →
+    Extends (valuesIn (linesTaken past)) (valuesIn (linesTaken (allFed past lines)))
 unfolding allFed
-stays past [] area month h = refl
-stays past (s ∷ lines) area month h =
-    let e = stays-fed past s area month h in
-    stays (fed past s) lines area month (omega (arith, e, h)) ∙ e
+stays past [] r area month h = refl
+stays past (s ∷ lines) r area month h =
+    let e = stays-fed past s (r s (List·Memᴰ·head refl)) area month h in
+    stays (fed past s) lines (λ x m. r x (List·Memᴰ·tail m)) area month (omega (arith, e, h)) ∙ e
 
 -- A loan taken has its values.
 settled-line : (by : Index) (kept : List (List ℕ)) → Settled by kept → (s : List ℕ) → List·Memᴰ s kept → (l : Loan) → lineContent (lineOf s) ≡ loan l →

@@ -14,7 +14,7 @@ use Rattle.loan_charge.proofs.CreditLaws.{band-most}
 use Rattle.line_forms.specs.declared.Loan.{Loan}
 use Rattle.line_forms.specs.declared.Content.{Content}
 use Rattle.line_forms.specs.declared.Content.the-variants.{Header as header, Loan as loan, Policy as policy, Derivative as derivative, Asset as asset}
-use Rattle.line_forms.specs.declared.Content.the-variants.{Amount as amount, Index as index, NoForm}
+use Rattle.line_forms.specs.declared.Content.the-variants.{Amount as amount, Index as index, Mark as mark, NoForm}
 use Rattle.book_model.specs.HouseIndex.{Index}
 use Rattle.book_model.specs.Ranges.{CellRanges}
 use Rattle.book_model.specs.Cells.{bandOf, beyond, ltvOf, loanLtv, ofLoan, noCells, addAt, withCell, CellsBounded}
@@ -32,6 +32,7 @@ held (derivative d) = no-loan (λ A f x. refl)
 held (asset a) = no-loan (λ A f x. refl)
 held (amount a) = no-loan (λ A f x. refl)
 held (index i) = no-loan (λ A f x. refl)
+held (mark m) = no-loan (λ A f x. refl)
 held NoForm = no-loan (λ A f x. refl)
 
 -- Bands and columns

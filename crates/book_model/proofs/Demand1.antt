@@ -12,11 +12,14 @@ use Rattle.exact.specs.Choice.{pick}
 use Rattle.figures.specs.declared.Counts.{Counts}
 use Rattle.line_forms.specs.declared.IndexValue.{IndexValue}
 use Rattle.line_forms.specs.declared.Loan.{Loan}
+use Rattle.line_forms.specs.declared.MarkLine.{MarkLine}
 use Rattle.line_forms.specs.declared.HeaderLine.{HeaderLine}
 use Rattle.line_forms.specs.declared.HeaderLine.the-variants.{Refusal as HeaderRefusal}
 use Rattle.line_forms.specs.declared.Line.{Line}
 use Rattle.line_forms.specs.declared.Line.the-variants.{Loan as LoanLine, Policy as PolicyLine, Derivative as DerivativeLine, Asset as AssetLine}
-use Rattle.line_forms.specs.declared.Line.the-variants.{Amount as AmountLine, Index as IndexLine, Refusal}
+use Rattle.line_forms.specs.declared.Line.the-variants.{Amount as AmountLine, Index as IndexLine, Mark as MarkRead, Refusal}
+use Rattle.line_forms.specs.declared.Content.{Content}
+use Rattle.line_forms.specs.Claims.{lineContent}
 use Rattle.line_forms.specs.Readings.{lineOf, headerOf}
 use Rattle.line_forms.proofs.HeaderLaws.{header-numbers}
 use Rattle.line_forms.proofs.LineLaws.{line-numbers}
@@ -26,14 +29,17 @@ use Rattle.book_report.proofs.Lengths.{report-most}
 use Rattle.cell_report.proofs.Laws.{cells-fit as cells-fit-64}
 use Rattle.book_model.specs.declared.Book.{Book}
 use Rattle.book_model.specs.Accepted.{mostOther, loanBeyond, refusalFor}
-use Rattle.book_model.specs.Calls.{State, Answer, stateAt, basisIn, countsOf, openingFor, refusalIn, bookAfter, cellsAfter, indexAfter, feedingLine, tooFew}
+use Rattle.book_model.specs.Calls.{State, Answer, stateAt, basisIn, countsOf, openingFor, refusalIn, bookAfter, cellsAfter, indexAfter, stateMarked}
+use Rattle.book_model.specs.Calls.{feedingLine, tooFew}
 use Rattle.book_model.specs.Calls.{closingWith, reportSize, reportOf, cellsSize, cellsTextOf, SoundBook, Sound}
 use Rattle.book_model.specs.Demand1.{refusedState, Demand1}
 use Rattle.book_model.specs.HouseIndex.{adjustmentOf, lacking}
-use Rattle.book_model.specs.LineKinds.{a-loan, an-index, another, contentKind}
+use Rattle.book_model.specs.LineKinds.{a-loan, an-index, a-mark, another, ofMark, contentKind}
+use Rattle.book_model.specs.Marks.{mostMarks, Kept, keptIn}
 use Rattle.book_model.specs.Terms.{Basis}
 use Rattle.book_model.proofs.Closings.{untouched}
 use Rattle.book_model.proofs.Feeding as feeding-laws
+use Rattle.book_model.proofs.MarkRows.{HeldMark, a-mark as held-a-mark, no-mark, held-mark}
 use Rattle.book_model.proofs.Openings.{number, sheet-passes, sheet-fails, header-fails, Case, book-opens, sheet-refused, header-refused, caseOf}
 use Rattle.book_model.proofs.Ranged.{ranged, ranged-header}
 
@@ -59,7 +65,7 @@ opening-number sheet l k = go (caseOf sheet l) k
 
 -- the numbers of feeding
 abbrev Fed : ℕ → Type 0
-Fed n = List·Memᴰ n (0 ∷ 1 ∷ 2 ∷ 7 ∷ 3 ∷ 5 ∷ 12 ∷ 8 ∷ 11 ∷ [])
+Fed n = List·Memᴰ n (0 ∷ 1 ∷ 2 ∷ 7 ∷ 3 ∷ 5 ∷ 12 ∷ 8 ∷ 11 ∷ 13 ∷ 14 ∷ 15 ∷ [])
 
 -- a number that a list has
 unfoldable has : ℕ → List ℕ → Bool
@@ -76,43 +82,56 @@ found n (x ∷ xs) e = go (eqb n x) refl e (found n xs)
     go false f e rest = later (rest e)
 
 -- by both tests, whichever comes first
-loan-number : (g : Basis) (c : Counts) (l : Loan) → Fed (refusalFor g c (a-loan l))
+loan-number : (g : Basis) (c : Counts) (k : Kept) (l : Loan) → Fed (refusalFor g c k (a-loan l))
 unfolding refusalFor has
-loan-number g c l = go (loanBeyond (g .terms .header) c (l .score)) refl (lacking (adjustmentOf (g .index) l)) refl
+loan-number g c k l = go (loanBeyond (g .terms .header) c (l .score)) refl (lacking (adjustmentOf (g .index) l)) refl
   where
     go : (x : Bool) → loanBeyond (g .terms .header) c (l .score) ≡ x → (y : Bool) → lacking (adjustmentOf (g .index) l) ≡ y →
-        Fed (refusalFor g c (a-loan l))
+        Fed (refusalFor g c k (a-loan l))
     go true p true q = simp (p, q) (found _ _ refl)
     go true p false q = simp (p, q) (found _ _ refl)
     go false p true q = simp (p, q) (found _ _ refl)
     go false p false q = simp (p, q) (found _ _ refl)
 
-index-number : (g : Basis) (c : Counts) (i : IndexValue) → Fed (refusalFor g c (an-index i))
+index-number : (g : Basis) (c : Counts) (k : Kept) (i : IndexValue) → Fed (refusalFor g c k (an-index i))
 unfolding refusalFor has
-index-number g c i = go (leb mostOther (c .other)) refl (eqb (g .index (i .area) (i .month)) 0) refl
+index-number g c k i = go (leb mostOther (c .other)) refl (eqb (g .index (i .area) (i .month)) 0) refl
   where
-    go : (x : Bool) → leb mostOther (c .other) ≡ x → (y : Bool) → eqb (g .index (i .area) (i .month)) 0 ≡ y → Fed (refusalFor g c (an-index i))
+    go : (x : Bool) → leb mostOther (c .other) ≡ x → (y : Bool) → eqb (g .index (i .area) (i .month)) 0 ≡ y → Fed (refusalFor g c k (an-index i))
     go true p true q = simp (p, q) (found _ _ refl)
     go true p false q = simp (p, q) (found _ _ refl)
     go false p true q = simp (p, q) (found _ _ refl)
     go false p false q = simp (p, q) (found _ _ refl)
 
-other-number : (g : Basis) (c : Counts) → Fed (refusalFor g c another)
+other-number : (g : Basis) (c : Counts) (k : Kept) → Fed (refusalFor g c k another)
 unfolding refusalFor has
-other-number g c = go (leb mostOther (c .other)) refl
+other-number g c k = go (leb mostOther (c .other)) refl
   where
-    go : (x : Bool) → leb mostOther (c .other) ≡ x → Fed (refusalFor g c another)
+    go : (x : Bool) → leb mostOther (c .other) ≡ x → Fed (refusalFor g c k another)
     go true p = rw p (found _ _ refl)
     go false p = rw p (found _ _ refl)
 
+mark-number : (g : Basis) (c : Counts) (k : Kept) (m : MarkLine) → Fed (refusalFor g c k (a-mark m))
+unfolding refusalFor has
+mark-number g c k m = go (m .back) refl (k .named (m .name)) refl (leb mostMarks (k .count)) refl
+  where
+    go : (x : Bool) → m .back ≡ x → (y : Bool) → k .named (m .name) ≡ y → (z : Bool) → leb mostMarks (k .count) ≡ z → Fed (refusalFor g c k (a-mark m))
+    go true p true q z r = simp (p, q) (found _ _ refl)
+    go true p false q z r = simp (p, q) (found _ _ refl)
+    go false p true q true r = simp (p, q, r) (found _ _ refl)
+    go false p true q false r = simp (p, q, r) (found _ _ refl)
+    go false p false q true r = simp (p, q, r) (found _ _ refl)
+    go false p false q false r = simp (p, q, r) (found _ _ refl)
+
 feeding-number : (s : State) (l : Line) → ((n : ℕ) → l ≡ Refusal n → (n ≡ 1) ⊎ (n ≡ 2) ⊎ (n ≡ 7) ⊎ (n ≡ 3)) → Fed (refusalIn s l)
 unfolding refusalFor contentKind
-feeding-number s (LoanLine l) k = loan-number (basisIn s) (countsOf (s .book)) l
-feeding-number s (PolicyLine p) k = other-number (basisIn s) (countsOf (s .book))
-feeding-number s (DerivativeLine d) k = other-number (basisIn s) (countsOf (s .book))
-feeding-number s (AssetLine a) k = other-number (basisIn s) (countsOf (s .book))
-feeding-number s (AmountLine a) k = other-number (basisIn s) (countsOf (s .book))
-feeding-number s (IndexLine i) k = index-number (basisIn s) (countsOf (s .book)) i
+feeding-number s (LoanLine l) k = loan-number (basisIn s) (countsOf (s .book)) (keptIn (s .marks)) l
+feeding-number s (PolicyLine p) k = other-number (basisIn s) (countsOf (s .book)) (keptIn (s .marks))
+feeding-number s (DerivativeLine d) k = other-number (basisIn s) (countsOf (s .book)) (keptIn (s .marks))
+feeding-number s (AssetLine a) k = other-number (basisIn s) (countsOf (s .book)) (keptIn (s .marks))
+feeding-number s (AmountLine a) k = other-number (basisIn s) (countsOf (s .book)) (keptIn (s .marks))
+feeding-number s (IndexLine i) k = index-number (basisIn s) (countsOf (s .book)) (keptIn (s .marks)) i
+feeding-number s (MarkRead m) k = mark-number (basisIn s) (countsOf (s .book)) (keptIn (s .marks)) m
 feeding-number s (Refusal n) k = later (⊎-elim first (λ a. later (⊎-elim first (λ b. later (⊎-elim first (λ c. later (first c)) b)) a)) (k n refl))
 
 closing-number : (x y : Bool) → List·Memᴰ {A = ℕ} (pick x 6 (pick y 9 0)) (0 ∷ 6 ∷ 9 ∷ [])
@@ -128,12 +147,21 @@ refused-opening sheet l n = go (caseOf sheet l) n
     go (sheet-refused h e) n = ap (λ (x : Answer). x .state) (sheet-fails sheet h e)
     go (header-refused k) n = ap (λ (x : Answer). x .state) (header-fails sheet k)
 
+-- a line that meets a refusal, whatever it holds
 refused-feeding : (s : State) (l : Line) → (feedingLine s l .refusal ≡ 0 → ⊥) → feedingLine s l .state ≡ s
-unfolding feedingLine bookAfter cellsAfter indexAfter
-refused-feeding s l n = go (eqb (refusalIn s l) 0) _ _ _ refl
+unfolding feedingLine bookAfter cellsAfter indexAfter stateMarked
+refused-feeding s l n = of-either (held-mark (lineContent l)) (λ m. marked (eqb (refusalIn s l) 0) _ refl) (go (eqb (refusalIn s l) 0) _ _ _ refl)
   where
+    of-either : {c : Content} {f : MarkLine → State} {x : State} → HeldMark c → ((m : MarkLine) → f m ≡ s) → x ≡ s → ofMark f x c ≡ s
+    of-either (held-a-mark m) h k = h m
+    of-either {c} {f} {x} (no-mark e) h k = e State f x ∙ k
+
+    marked : (t : Bool) (x : State) → eqb (refusalIn s l) 0 ≡ t → pick t x s ≡ s
+    marked true x e = absurd (n (eqb-true (refusalIn s l) 0 e))
+    marked false x e = refl
+
     go : (t : Bool) (b : Book) (cells index : List ℕ) → eqb (refusalIn s l) 0 ≡ t →
-        stateAt (pick t b (s .book)) (s .rates) (pick t cells (s .cells)) (pick t index (s .index)) ≡ s
+        stateAt (pick t b (s .book)) (s .rates) (pick t cells (s .cells)) (pick t index (s .index)) (s .marks) ≡ s
     go true b cells index e = absurd (n (eqb-true (refusalIn s l) 0 e))
     go false b cells index e = refl
 

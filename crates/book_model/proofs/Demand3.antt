@@ -1,20 +1,23 @@
 -- Demand 3 over the definitions, with no hypothesis. Assumes nothing.
-use mathlib.Core.Path.{_≡_, refl, sym, _∙_, ap, ap₂}
+use mathlib.Core.Path.{_≡_, refl, sym, _∙_, ap, ap₂, subst}
 use mathlib.Core.Bool.{Bool, true, false}
 use mathlib.Core.List.{List, [], _∷_, _++_, map, append-assoc, List·Permᴰ, List·Permᴰ·nil, List·Permᴰ·cons, List·Permᴰ·swap, List·Permᴰ·trans}
-use mathlib.Core.Logic.{_↔_}
-use Prim.Native.Nat.{ℕ}
+use mathlib.Core.Logic.{_↔_, ⊎-elim}
+use Prim.Native.Nat.{ℕ, suc, _<_}
 use native.Mathlib.Omega.{arith}
 use lib.Dec.{eqb, eqb→eq}
-use lib.ListN.{length, take, drop, length-append}
-use lib.Seq.{take-at}
-use borrow.Author.Tests.{eq-eqb}
+use lib.ListN.{length, getD, take, drop, length-append}
+use lib.Seq.{take-at, take-suc, split-at}
+use borrow.Author.Tests.{ltb-true, eqb-false}
 use Rattle.exact.specs.Choice.{pick}
 use Rattle.exact.specs.Fraction.{whole, _⊕_, _≼_, _≺_}
 use Rattle.exact.specs.Quantity.{Eventually}
 use Rattle.exact.proofs.Quantities.{at-every-order, mapped, some-allowed}
 use Rattle.loan_charge.specs.CreditFactor.{RatesInRange}
-use Rattle.line_forms.specs.Claims.{lineContent}
+use Rattle.line_forms.specs.declared.MarkLine.{MarkLine}
+use Rattle.line_forms.specs.declared.Content.{Content}
+use Rattle.line_forms.specs.declared.Content.the-variants.{Mark as mark}
+use Rattle.line_forms.specs.Claims.{ShowsInRange, lineRefusal, lineContent}
 use Rattle.line_forms.specs.Readings.{lineOf, headerOf}
 use Rattle.figures.specs.declared.Counts.{Counts}
 use Rattle.figures.specs.declared.Figures.{Figures}
@@ -26,15 +29,19 @@ use Rattle.report.specs.Line.{onto}
 use Rattle.report.proofs.Decimal.{digits-value, signed-whole}
 use Rattle.book_report.specs.Report.{unsigned, valueLine, ratioLine, headText, reportText}
 use Rattle.book_model.specs.declared.Book.{Book}
-use Rattle.book_model.specs.Accepted.{Accepted, countsIn, refusalOf, accept}
+use Rattle.book_model.specs.Accepted.{Note, Accepted, countsIn, refusalFor, namesOf, keptBy, refusalOf, noNote, placeOfNote, takenUp, noted, added}
+use Rattle.book_model.specs.Accepted.{withMark, accept}
 use Rattle.book_model.specs.Calls.{State, Answer, stateAt, emptyBook, opening, feeding, closingRefusal}
 use Rattle.book_model.specs.Calls.{closingWith, closedWith, reportSize, reportOf}
-use Rattle.book_model.specs.Demand3.{figuresFor, reportFor, afterLines, hundredthsPerLoan, allowance, Writes, Closes, Measured, SameTexts}
+use Rattle.book_model.specs.Demand3.{figuresFor, reportFor, afterLines, hundredthsPerLoan, allowance, Writes, LedgerTakes, adds, notes, returns, Closes}
+use Rattle.book_model.specs.Demand3.{Measured}
+use Rattle.book_model.specs.Demand3.{SameTexts}
 use Rattle.book_model.specs.Demand3.{SameReports, Demand3}
 use Rattle.book_model.specs.Exact.{requirementBy, requirement}
 use Rattle.book_model.specs.History.{History, opened, fed, allFed, termsOf, acceptedOf, linesTaken, sumsBy, sumsOf}
 use Rattle.book_model.specs.HouseIndex.{setBy, valuesIn}
-use Rattle.book_model.specs.LineKinds.{sumBy}
+use Rattle.book_model.specs.LineKinds.{ofMark, contentKind, sumBy}
+use Rattle.book_model.specs.Marks.{isAmong, markRefusal}
 use Rattle.book_model.specs.Share.{share}
 use Rattle.book_model.specs.Terms.{Terms, Basis, basisOf, termsFor}
 use Rattle.book_model.proofs.Bounds.{Near}
@@ -43,12 +50,14 @@ use Rattle.book_model.proofs.Dependence.{requirement-determined}
 use Rattle.book_model.proofs.ExactSums.{rest-sum, moved-sum, rounded-is}
 use Rattle.book_model.proofs.Feeding.{opening-sound}
 use Rattle.book_model.proofs.IndexTables.{none-set}
-use Rattle.book_model.proofs.Ledger.{Good, in-hundredths, good-of}
+use Rattle.book_model.proofs.Ledger.{Good, GoodLedger, in-hundredths, ledger-of, good-of, taken-mark, accepts, leaves, names-length, named-at, name-at}
 use Rattle.book_model.proofs.LineSums.{sum-permuted as line-sum-permuted}
+use Rattle.book_model.proofs.MarkRows.{HeldMark, a-mark, no-mark, held-mark}
+use Rattle.book_model.proofs.Notes.{member, mark-content, mark-shown, noted-among}
 use Rattle.book_model.proofs.Near.{ChargeableBasis, rates-chargeable}
 use Rattle.book_model.proofs.Ranged.{ranged-header}
 use Rattle.book_model.proofs.Required.{requiredFor, near, list-exponents}
-use Rattle.book_model.proofs.Steps.{bookOf, stateOf, counts, step}
+use Rattle.book_model.proofs.Steps.{bookOf, stateOf, counts, no-notes, step}
 use Rattle.book_model.proofs.Tables.{no-cells}
 
 -- The state after a list of lines is the state of the accepted lines.
@@ -61,9 +70,9 @@ one-more past s = (refl, refl)
 pub fed-is : (past : History) (s : List ℕ) → feeding (stateOf (termsOf past) (acceptedOf past)) s .state ≡ stateOf (termsOf (fed past s))
     (acceptedOf (fed past s))
 unfolding termsOf acceptedOf
-fed-is past s = ap (λ (a : Answer). a .state) (step (termsOf past) (acceptedOf past) (good-of past) s)
+fed-is past s = ap (λ (a : Answer). a .state) (step (termsOf past) (acceptedOf past) (ledger-of past) s)
 
-chain : (past : History) (lines : List (List ℕ)) → afterLines (stateOf (termsOf past) (acceptedOf past)) lines ≡ stateOf (termsOf (allFed past lines))
+pub chain : (past : History) (lines : List (List ℕ)) → afterLines (stateOf (termsOf past) (acceptedOf past)) lines ≡ stateOf (termsOf (allFed past lines))
     (acceptedOf (allFed past lines))
 unfolding afterLines allFed
 chain past [] = refl
@@ -74,7 +83,7 @@ pub opened-is : (sheet header : List ℕ) → opening sheet header .state ≡ st
 unfolding sumsBy sumOf sumBy termsOf acceptedOf
 opened-is sheet header =
     let t = termsFor sheet (headerOf header) in
-    ap₂ (stateAt (emptyBook (t .header)) (t .rates)) (no-cells (basisOf t [])) none-set
+    λ i. stateAt (emptyBook (t .header)) (t .rates) (no-cells (basisOf t []) i) (none-set i) (no-notes t i)
 
 -- the terms of a list of lines are those of its header
 pub terms-stay : (past : History) (lines : List (List ℕ)) → termsOf (allFed past lines) ≡ termsOf past
@@ -82,10 +91,15 @@ unfolding allFed
 terms-stay past [] = refl
 terms-stay past (s ∷ lines) = terms-stay (fed past s) lines ∙ one-more past s .0
 
+-- the state of a list of lines after its header is that of its history
+pub reached : (sheet header : List ℕ) (lines : List (List ℕ)) → afterLines (opening sheet header .state) lines ≡
+    stateOf (termsOf (allFed (opened sheet header) lines)) (acceptedOf (allFed (opened sheet header) lines))
+reached sheet header lines = ap (λ (x : State). afterLines x lines) (opened-is sheet header) ∙ chain (opened sheet header) lines
+
 pub after-is : (sheet header : List ℕ) (lines : List (List ℕ)) →
     afterLines (opening sheet header .state) lines ≡ stateOf (termsOf (opened sheet header)) (acceptedOf (allFed (opened sheet header) lines))
 after-is sheet header lines =
-    ap (λ (x : State). afterLines x lines) (opened-is sheet header) ∙ chain (opened sheet header) lines
+    reached sheet header lines
     ∙ ap (λ (t : Terms). stateOf t (acceptedOf (allFed (opened sheet header) lines))) (terms-stay (opened sheet header) lines)
 
 -- every history is opened under rates in range
@@ -106,13 +120,75 @@ report-is t kept =
 not-itself : (kept : List (List ℕ)) (s : List ℕ) → kept ≡ kept ++ (s ∷ []) → ⊥
 not-itself kept s e = omega (arith, simp length-append at (ap length e))
 
-grows : (t : Terms) (a : Accepted) (s : List ℕ) → (refusalOf t a s ≡ 0) ↔ (accept t a s .kept ≡ a .kept ++ (s ∷ []))
-unfolding accept
-grows t a s = (λ e. rw (eq-eqb (refusalOf t a s) 0 e) refl, λ e. go (eqb (refusalOf t a s) 0) refl e)
-  where
-    go : (test : Bool) → eqb (refusalOf t a s) 0 ≡ test → pick test (a .kept ++ (s ∷ [])) (a .kept) ≡ a .kept ++ (s ∷ []) → refusalOf t a s ≡ 0
-    go true f e = eqb→eq (refusalOf t a s) 0 (rw f tt)
-    go false f e = absurd (not-itself (a .kept) s e)
+-- What the ledger does with a line that meets no refusal
+
+module _ (t : Terms) (a : Accepted) (s : List ℕ) where
+  -- a line that is neither a mark nor a return is added
+  pub unmarked-added : refusalOf t a s ≡ 0 → ((m : MarkLine) → ShowsInRange s (mark m) → ⊥) → accept t a s ≡ added a s
+  unmarked-added e n = accepts t a s e ∙ go (held-mark (lineContent (lineOf s))) refl
+    where
+      go : {c : Content} → HeldMark c → lineContent (lineOf s) ≡ c → ofMark (withMark a) (added a s) c ≡ added a s
+      go (a-mark m) f = absurd (n m (mark-shown s m f))
+      go (no-mark k) f = k Accepted (withMark a) (added a s)
+
+  -- a mark or return, by its bytes
+  shows-mark : (m : MarkLine) → lineContent (lineOf s) ≡ mark m → (refusalOf t a s ≡ markRefusal (keptBy (a .notes)) m) × ShowsInRange s (mark m)
+  unfolding refusalFor contentKind
+  shows-mark m e = (
+    ap (λ (c : Content). refusalFor (basisOf t (a .kept)) (countsIn (a .kept)) (keptBy (a .notes)) (contentKind (lineRefusal (lineOf s)) c)) e,
+    mark-shown s m e,
+  )
+
+  -- the mark that is taken
+  takes-mark : (m : MarkLine) → lineContent (lineOf s) ≡ mark m → refusalOf t a s ≡ 0 → LedgerTakes t a s
+  takes-mark m e z =
+      let (r, shown) = shows-mark m e in
+      let after : accept t a s ≡ withMark a m = accepts t a s z ∙ ap (ofMark (withMark a) (added a s)) e in
+      ⊎-elim
+      (λ (b, n).
+      let at : ℕ = placeOfNote a (m .name) in
+      let p : at < length (namesOf (a .notes)) = ltb-true at (length (namesOf (a .notes))) n in
+      let q : at < length (a .notes) = omega (arith, p, names-length (a .notes)) in
+      let note : Note = getD (a .notes) at noNote in
+      let named : note .name ≡ m .name = sym (name-at (a .notes) at) ∙ named-at (m .name) (namesOf (a .notes)) p in
+      returns (take at (a .notes)) note (drop (suc at) (a .notes))
+      (subst (λ (x : MarkLine). ShowsInRange s (mark x)) (λ i. record { back = b i; name = sym named i }) shown)
+      (split-at (a .notes) at noNote q)
+      (after ∙ ap (λ (x : Bool). pick x (takenUp a (m .name)) (noted a (m .name))) b
+      ∙ (λ i. record { kept = note .list; notes = take-suc (a .notes) at noNote q i })))
+      (λ (b, n, f).
+      notes (m .name) (subst (λ (x : Bool). ShowsInRange s (mark (record { back = x; name = m .name }))) b shown)
+      (after ∙ ap (λ (x : Bool). pick x (takenUp a (m .name)) (noted a (m .name))) b))
+      (taken-mark (keptBy (a .notes)) m (sym r ∙ z))
+
+  takes-line : refusalOf t a s ≡ 0 → LedgerTakes t a s
+  takes-line z = go (held-mark (lineContent (lineOf s))) refl
+    where
+      go : {c : Content} → HeldMark c → lineContent (lineOf s) ≡ c → LedgerTakes t a s
+      go (a-mark m) e = takes-mark m e z
+      go (no-mark k) e = adds (accepts t a s z ∙ ap (ofMark (withMark a) (added a s)) e ∙ k Accepted (withMark a) (added a s))
+
+  -- a line that is refused is none of the three
+  number-taken : LedgerTakes t a s → refusalOf t a s ≡ 0
+  number-taken h = go (eqb (refusalOf t a s) 0) refl h
+    where
+      go : (test : Bool) → eqb (refusalOf t a s) 0 ≡ test → LedgerTakes t a s → refusalOf t a s ≡ 0
+      go true f h = eqb→eq (refusalOf t a s) 0 (rw f tt)
+      go false f (adds e) = absurd (not-itself (a .kept) s (ap (λ (x : Accepted). x .kept) (sym (leaves t a s (eqb-false (refusalOf t a s) 0 f)) ∙ e)))
+      go false f (notes name k e) =
+          absurd (omega (
+            arith,
+            ap (λ (x : Accepted). length (x .notes)) (sym (leaves t a s (eqb-false (refusalOf t a s) 0 f)) ∙ e),
+            length-append (a .notes) (record { name = name; list = a .kept } ∷ []),
+          ))
+      go false f (returns before note after k e g) =
+          let m : MarkLine = record { back = true; name = note .name } in
+          let n : isAmong (note .name) (namesOf (a .notes)) ≡ true = noted-among (a .notes) (note .name)
+          (record { note = note; kept = rw e (member before note after); named = refl }) in
+          shows-mark m (mark-content s m k) .0 ∙ rw n refl
+
+taken-is : (t : Terms) (a : Accepted) (s : List ℕ) → (refusalOf t a s ≡ 0) ↔ LedgerTakes t a s
+taken-is t a s = (takes-line t a s, number-taken t a s)
 
 -- A closing of the book of the accepted lines, whatever it writes.
 pub writes-of : (least : ℕ) (t : Terms) (a : Accepted) (text : List ℕ) →
@@ -125,10 +201,11 @@ writes-of least t a text = record {
   told = λ size e. tells least (bookOf t (a .kept)) text size e;
 }
 
-pub closes-of : (t : Terms) (a : Accepted) → Good (a .kept) → Closes t a (stateOf t a)
+pub closes-of : (t : Terms) (a : Accepted) → GoodLedger a → Closes t a (stateOf t a)
 closes-of t a h = record {
   answers = λ s. ap (λ (x : Answer). x .refusal) (step t a h s);
-  taken = λ s. rw (ap (λ (x : Answer). x .refusal) (step t a h s)) (grows t a s);
+  taken = λ s. rw (ap (λ (x : Answer). x .refusal) (step t a h s)) (taken-is t a s);
+  left = λ s n. leaves t a s (λ z. n (ap (λ (x : Answer). x .refusal) (step t a h s) ∙ z));
   report = rw (← report-is t (a .kept)) (writes-of reportSize t a (reportOf (bookOf t (a .kept))));
 }
 
@@ -236,7 +313,7 @@ demand3 sheet header lines =
     let t : Terms = termsOf (opened sheet header) in
     let past : History = allFed (opened sheet header) lines in
     record {
-      closes = rw (after-is sheet header lines) (closes-of t (acceptedOf past) (good-of past));
+      closes = rw (after-is sheet header lines) (closes-of t (acceptedOf past) (ledger-of past));
       measured = measured-of t (terms-in-range (opened sheet header)) (linesTaken past) (good-of past);
       alike = λ others p. rw (after-is sheet header lines, after-is sheet header others) (same-reports t p);
     }

@@ -1,7 +1,9 @@
 -- The twelve examples, by computation. Assumes nothing.
 use mathlib.Core.Path.{_≡_, refl, ap, _∙_}
-use Prim.Native.Nat.{ℕ, _≤_}
+use mathlib.Core.List.{[]}
+use Prim.Native.Nat.{ℕ, zero, suc, _≤_, _<_}
 use native.Mathlib.Omega.{arith}
+use lib.ListN.{length, take, getD}
 use Rattle.exact.specs.Fraction.{ceiling}
 use Rattle.exact.proofs.Examples as exact
 use Rattle.coefficients.proofs.Examples as coefficients
@@ -22,7 +24,7 @@ use Rattle.figures.specs.Figures.{requiredOf, admitted, capitalOf, ratioSize, r
 use Rattle.report.specs.Decimal.{leading, digits, signed}
 use Rattle.book_model.specs.Share.{share, assetShare, amountShare}
 use Rattle.book_model.specs.LineKinds.{contentKind, kindCounts}
-use Rattle.book_model.specs.Accepted.{countsIn, refusalFor, accept}
+use Rattle.book_model.specs.Accepted.{countsIn, refusalFor, refusalOf, accept}
 use Rattle.book_model.specs.Exact.{exactAmount, exactShare, sumOver}
 use Rattle.book_report.specs.Report.{ratioLine, reportText}
 use Rattle.book_model.specs.History.{termsOf, acceptedOf, allFed, sumsBy, opened, linesTaken}
@@ -38,6 +40,18 @@ unfolding allWithin runOf same after isNumeral valueFrom headerInRange moneyInRa
     afterSigned placeOf afterWord headerHeld assetHeld plainHeld signedHeld amountHeld contentOf lineFor lineOf headerFor headerOf contentKind kindCounts
     countsIn refusalFor accept termsFor termsOf acceptedOf allFed builtInSheet placePasses placesPass sheetPasses
 taken = refl
+
+fed : (n : ℕ) → n < length workedLines →
+    refusalOf (termsOf (opened builtInSheet workedHeader)) (acceptedOf (allFed (opened builtInSheet workedHeader) (take n workedLines)))
+    (getD workedLines n []) ≡ 0
+unfolding allWithin runOf same after isNumeral valueFrom headerInRange moneyInRange assetInRange amountInRange numberAt afterNumber afterNegative signedAt
+    afterSigned placeOf afterWord headerHeld assetHeld plainHeld signedHeld amountHeld contentOf lineFor lineOf headerFor headerOf contentKind kindCounts
+    countsIn refusalFor accept termsFor termsOf acceptedOf allFed builtInSheet placePasses placesPass sheetPasses
+fed zero h = refl
+fed (suc zero) h = refl
+fed (suc (suc zero)) h = refl
+fed (suc (suc (suc zero))) h = refl
+fed (suc (suc (suc (suc n)))) h = absurd (omega (arith, h))
 
 opens : opening builtInSheet workedHeader .refusal ≡ 0
 unfolding allWithin runOf same after isNumeral valueFrom headerInRange numberAt afterNumber placeOf afterWord headerHeld contentOf headerFor headerOf
@@ -79,6 +93,7 @@ twelve =
       example10 = (refl, refl);
       example11 = refl;
       opens12 = opens;
+      fed12 = fed;
       taken12 = taken;
       closes12 = closes;
       example12 = ap (reportFor (termsOf (opened builtInSheet workedHeader))) taken ∙ worked;

@@ -13,7 +13,7 @@ use Rattle.line_forms.specs.declared.IndexValue.{IndexValue}
 use Rattle.line_forms.specs.declared.Loan.{Loan}
 use Rattle.line_forms.specs.declared.Content.{Content}
 use Rattle.line_forms.specs.declared.Content.the-variants.{Header as header, Loan as loan, Policy as policy, Derivative as derivative, Asset as asset}
-use Rattle.line_forms.specs.declared.Content.the-variants.{Amount as amount, Index as index, NoForm}
+use Rattle.line_forms.specs.declared.Content.the-variants.{Amount as amount, Index as index, Mark as mark, NoForm}
 use Rattle.line_forms.specs.Claims.{lineContent}
 use Rattle.line_forms.specs.Readings.{lineOf}
 use Rattle.book_model.specs.HouseIndex.{InTable, isIndexed, ofIndex, setBy, valuesIn, placeFor, valuesAt, noIndex, indexWith, indexLine, setPlaces}
@@ -39,6 +39,7 @@ held-index (derivative d) = no-index (λ A f x. refl)
 held-index (asset a) = no-index (λ A f x. refl)
 held-index (amount a) = no-index (λ A f x. refl)
 held-index (index i) = an-index i
+held-index (mark m) = no-index (λ A f x. refl)
 held-index NoForm = no-index (λ A f x. refl)
 
 -- Places
@@ -73,7 +74,7 @@ setAt i c = ofIndex (λ v. pick (eqb i (placeFor (v .area) (v .month))) (v .valu
 unfoldable pub indexOf : List (List ℕ) → List ℕ
 indexOf kept = tabulate 1584 0 (λ i. sumBy (setAt i) kept)
 
-index-length : (kept : List (List ℕ)) → length (indexOf kept) ≡ 1584
+pub index-length : (kept : List (List ℕ)) → length (indexOf kept) ≡ 1584
 unfolding indexOf
 index-length kept = tabulate-length 1584 0 (λ i. sumBy (setAt i) kept)
 

@@ -17,13 +17,16 @@ pub mod IndexTables
 pub mod Ledger
 pub mod LineSums
 pub mod LoanTable
+pub mod MarkRows
 pub mod Openings
 pub mod OwnFactors
 pub mod Near
+pub mod Notes
 pub mod Ranged
 pub mod Required
 pub mod SetValues
 pub mod Shapes
+pub mod Standing
 pub mod Steps
 pub mod Tables
 pub mod Tests

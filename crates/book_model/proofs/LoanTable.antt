@@ -14,7 +14,7 @@ use Rattle.line_forms.specs.declared.Content.{Content}
 use Rattle.line_forms.specs.declared.Content.the-variants.{Loan as loan}
 use Rattle.line_forms.specs.declared.Line.{Line}
 use Rattle.line_forms.specs.declared.Line.the-variants.{Loan as LoanLine, Policy as PolicyLine, Derivative as DerivativeLine, Asset as AssetLine}
-use Rattle.line_forms.specs.declared.Line.the-variants.{Amount as AmountLine, Index as IndexLine, Refusal}
+use Rattle.line_forms.specs.declared.Line.the-variants.{Amount as AmountLine, Index as IndexLine, Mark as MarkRead, Refusal}
 use Rattle.line_forms.specs.Claims.{ShowsInRange, lineContent}
 use Rattle.line_forms.specs.Readings.{lineOf}
 use Rattle.line_forms.proofs.LineLaws.{line-accepted}
@@ -154,6 +154,7 @@ cell-adds values s band ltv f = record {
     go (AssetLine a) e h = refl
     go (AmountLine a) e h = refl
     go (IndexLine i) e h = refl
+    go (MarkRead m) e h = refl
     go (Refusal n) e h = refl
 
 -- The place j of a cell sums f over the loans of its band and column, where f is what a loan adds there.
@@ -351,8 +352,8 @@ unfolding cellsFor
 cells-permuted t {kept} {others} p =
     cells-alike (λ band ltv a b c d. ap (λ (g : Basis). cellBy g kept band ltv) (basis-permuted t p) ∙ cell-permuted (basisOf t others) p band ltv)
 
-pub same-tables : (t : Terms) {a b : Accepted} → List·Permᴰ (a .kept) (b .kept) → SameTables (stateOf t a) (stateOf t b)
-same-tables t {a} {b} p =
+pub same-tables : (t : Terms) (a b : Accepted) → List·Permᴰ (a .kept) (b .kept) → SameTables (stateOf t a) (stateOf t b)
+same-tables t a b p =
     same-texts cellsSize (bookOf t (a .kept)) (bookOf t (b .kept)) (cells-text t (a .kept) ∙ cells-permuted t p ∙ sym (cells-text t (b .kept)))
 
 pub loan-table : LoanTable
@@ -366,5 +367,6 @@ loan-table = record {
   closes = λ sheet header lines.
       rw (after-is sheet header lines) (cells-written (termsOf (opened sheet header)) (acceptedOf (allFed (opened sheet header) lines)));
   sums = λ sheet header lines. cell-sums (termsOf (opened sheet header)) (linesTaken (allFed (opened sheet header) lines));
-  alike = λ sheet header lines others p. rw (after-is sheet header lines, after-is sheet header others) (same-tables (termsOf (opened sheet header)) p);
+  alike = λ sheet header lines others p. rw (after-is sheet header lines, after-is sheet header others)
+      (same-tables (termsOf (opened sheet header)) (acceptedOf (allFed (opened sheet header) lines)) (acceptedOf (allFed (opened sheet header) others)) p);
 }

@@ -11,13 +11,14 @@ use Rattle.sheet.proofs.Rules.{rules}
 use Rattle.line_forms.specs.declared.HeaderLine.{HeaderLine}
 use Rattle.line_forms.specs.declared.HeaderLine.the-variants.{Refusal as HeaderRefusal}
 use Rattle.line_forms.specs.Contents.{onAgedTable}
-use Rattle.line_forms.specs.Readings.{headerOf}
+use Rattle.line_forms.specs.Readings.{lineOf, headerOf}
 use Rattle.line_forms.proofs.HeaderLaws.{header-numbers}
 use Rattle.book_model.specs.Calls.{State, Answer, openingFor, feedingLine, feeding}
 use Rattle.book_model.specs.Demand3.{afterLines}
 use Rattle.book_model.specs.OwnFactors.{OwnFactors}
 use Rattle.book_model.specs.Terms.{factorFor}
 use Rattle.book_model.proofs.Demand2.{header-number}
+use Rattle.book_model.proofs.Feeding.{rates-kept}
 use Rattle.book_model.proofs.Openings.{number, sheet-passes, sheet-fails, header-fails, Case, book-opens, sheet-refused, header-refused, caseOf}
 
 opened : (sheet : List ℕ) (l : HeaderLine) → ((n : ℕ) → l ≡ HeaderRefusal n → n ≡ 0 → ⊥) → openingFor sheet l .refusal ≡ 0 →
@@ -31,9 +32,9 @@ opened sheet l b e = go (caseOf sheet l) b e
     go (header-refused n) b e = absurd (b n refl (sym (number (header-fails sheet n)) ∙ e))
 
 kept : (s : State) (lines : List (List ℕ)) → afterLines s lines .rates ≡ s .rates
-unfolding afterLines feedingLine
+unfolding afterLines
 kept s [] = refl
-kept s (line ∷ lines) = kept (feeding s line .state) lines
+kept s (line ∷ lines) = kept (feeding s line .state) lines ∙ rates-kept s (lineOf line)
 
 pub own-factors : OwnFactors
 unfolding factorFor creditFactor scoredFactor

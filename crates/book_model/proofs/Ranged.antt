@@ -5,13 +5,15 @@ use mathlib.Core.List.{List}
 use Prim.Native.Nat.{ℕ}
 use Rattle.line_forms.specs.declared.Line.{Line}
 use Rattle.line_forms.specs.declared.Line.the-variants.{Loan as LoanLine, Policy as PolicyLine, Derivative as DerivativeLine, Asset as AssetLine}
-use Rattle.line_forms.specs.declared.Line.the-variants.{Amount as AmountLine, Index as IndexLine, Refusal}
+use Rattle.line_forms.specs.declared.Line.the-variants.{Amount as AmountLine, Index as IndexLine, Mark as MarkRead, Refusal}
 use Rattle.line_forms.specs.declared.HeaderLine.{HeaderLine}
 use Rattle.line_forms.specs.declared.HeaderLine.the-variants.{Header as HeaderRead, Refusal as HeaderRefusal}
+use Rattle.line_forms.specs.declared.Content.the-variants.{Mark as mark}
 use Rattle.line_forms.specs.Claims.{lineContent}
 use Rattle.line_forms.specs.Readings.{lineOf, headerOf}
 use Rattle.line_forms.proofs.Bounds.{LoanBounds, loan-bounds, PolicyBounds, policy-bounds, DerivativeBounds, derivative-bounds, AssetBounds, asset-bounds}
 use Rattle.line_forms.proofs.Bounds.{AmountBounds, amount-bounds, IndexBounds, index-bounds, HeaderBounds, header-bounds}
+use Rattle.line_forms.proofs.LineLaws.{line-accepted}
 use Rattle.book_model.specs.Ranges.{Ranged, RangedHeader}
 
 pub ranged : (s : List ℕ) → Ranged (lineContent (lineOf s))
@@ -49,6 +51,7 @@ ranged s = go (lineOf s) refl
           value-least = b .value .low;
           value-most = b .value .high;
         }
+    go (MarkRead m) e = record { name-least = line-accepted s (mark m) tt .0 e .0 .0 .0 }
     go (Refusal n) e = tt
 
 pub ranged-header : (s : List ℕ) → RangedHeader (headerOf s)

@@ -13,7 +13,7 @@ use Rattle.line_forms.specs.declared.Content.{Content}
 use Rattle.line_forms.specs.declared.Content.the-variants.{Loan as loan, Index as index}
 use Rattle.line_forms.specs.declared.Line.{Line}
 use Rattle.line_forms.specs.declared.Line.the-variants.{Loan as LoanLine, Policy as PolicyLine, Derivative as DerivativeLine, Asset as AssetLine}
-use Rattle.line_forms.specs.declared.Line.the-variants.{Amount as AmountLine, Index as IndexLine, Refusal}
+use Rattle.line_forms.specs.declared.Line.the-variants.{Amount as AmountLine, Index as IndexLine, Mark as MarkRead, Refusal}
 use Rattle.line_forms.specs.Claims.{ShowsInRange, AfterHeader, lineWith, lineContent}
 use Rattle.line_forms.specs.Readings.{lineOf}
 use Rattle.line_forms.proofs.LineLaws.{line-accepted}
@@ -49,6 +49,7 @@ module _ (s : List ℕ) where
       go (AssetLine a) f e = absurd (not-index _ refl e)
       go (AmountLine a) f e = absurd (not-index _ refl e)
       go (IndexLine v) f e = subst (λ (x : IndexValue). ShowsInRange s (index x)) (ap (ofIndex (λ x. x) v) e) (shows (index v) tt f)
+      go (MarkRead m) f e = absurd (not-index _ refl e)
       go (Refusal n) f e = absurd (not-index _ refl e)
 
   pub index-content : (i : IndexValue) → ShowsInRange s (index i) → lineContent (lineOf s) ≡ index i

@@ -14,7 +14,7 @@ use Rattle.line_forms.specs.declared.Item.{Item}
 use Rattle.line_forms.specs.declared.Item.the-variants.{Claims, Lossc, Stated, Equity, Aoci, B, C}
 use Rattle.line_forms.specs.declared.Content.{Content}
 use Rattle.line_forms.specs.declared.Content.the-variants.{Header as header, Loan as loan, Policy as policy, Derivative as derivative, Asset as asset}
-use Rattle.line_forms.specs.declared.Content.the-variants.{Amount as amount, Index as index, NoForm}
+use Rattle.line_forms.specs.declared.Content.the-variants.{Amount as amount, Index as index, Mark as mark, NoForm}
 use Rattle.other_charges.specs.Charges.{claimsPercent, lossComponentsPercent, statedPercent, provisionTenths, addOnThousandths}
 use Rattle.other_charges.specs.Parts.{assetParts, derivativeParts, provisionParts}
 use Rattle.other_charges.proofs.ChargeLaws.{InParts, asset-is, share-is, derivative-is, provision-is, multi-provision-is, tenths-bounded, add-on-bounded}
@@ -198,4 +198,5 @@ shape g (asset a) = of-other {c = asset a} (λ n. refl) refl (adds-rest _ _ (ass
 shape g (amount a) =
     of-other {c = amount a} (λ n. refl) refl (adds-within (λ r. record { plus = r .plus; minus = r .minus }) (amount-adds (a .item) (a .amount)))
 shape g (index i) = of-none {c = index i} (λ n. refl) refl refl
+shape g (mark m) = of-none {c = mark m} (λ n. refl) refl refl
 shape g NoForm = of-none (λ n. refl) refl refl

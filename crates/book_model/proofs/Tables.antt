@@ -50,7 +50,7 @@ placedBy g i c = ofLoan (λ l. placed i (placeOf (loanBand l) (loanLtv (g .index
 unfoldable pub cellsOf : Basis → List (List ℕ) → List ℕ
 cellsOf g kept = tabulate 240 0 (λ i. sumBy (placedBy g i) kept)
 
-cells-length : (g : Basis) (kept : List (List ℕ)) → length (cellsOf g kept) ≡ 240
+pub cells-length : (g : Basis) (kept : List (List ℕ)) → length (cellsOf g kept) ≡ 240
 unfolding cellsOf
 cells-length g kept = tabulate-length 240 0 (λ i. sumBy (placedBy g i) kept)
 
@@ -77,7 +77,7 @@ add-at l at x i h = go (eqb i at) refl
     go true e = let f : i ≡ at = eqb-true i at e in rw f (getD-set-same l at (getD l at 0 + x) 0 h)
     go false e = rw (getD-set-other l at i (getD l at 0 + x) 0 (eqb-false i at e)) (omega arith)
 
-with-cell-length : (l : List ℕ) (place : ℕ) (x : Cell) → length (withCell l place x) ≡ length l
+pub with-cell-length : (l : List ℕ) (place : ℕ) (x : Cell) → length (withCell l place x) ≡ length l
 unfolding withCell
 with-cell-length l place x = simp length-set
 

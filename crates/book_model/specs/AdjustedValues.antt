@@ -9,7 +9,7 @@ use Rattle.line_forms.specs.declared.Loan.{Loan}
 use Rattle.line_forms.specs.declared.Content.the-variants.{Loan as loan, Index as index}
 use Rattle.line_forms.specs.Claims.{ShowsInRange}
 use Rattle.book_model.specs.Cells.{ltvOf, loanLtv}
-use Rattle.book_model.specs.Demand2.{Indexed, IsSet}
+use Rattle.book_model.specs.Demand2.{Indexed, IsSet, IsReturn}
 use Rattle.book_model.specs.History.{History, allFed, linesTaken}
 use Rattle.book_model.specs.HouseIndex.{valuesIn}
 use Rattle.book_model.specs.Share.{loanNumbers}
@@ -31,8 +31,9 @@ pub record AdjustedValues : Type 0 where
       ((s : List ℕ) × List·Memᴰ s (linesTaken past) × ShowsInRange s (index (record { area = area; month = month; value = value })))
   -- It is above 0 exactly where such a line was taken,
   pub set : (past : History) (area month : ℕ) → (1 ≤ valuesIn (linesTaken past) area month) ↔ IsSet (linesTaken past) area month
-  -- and once set it stays.
-  pub stays : (past : History) (lines : List (List ℕ)) (area month : ℕ) → 1 ≤ valuesIn (linesTaken past) area month →
+  -- and once set it stays, whatever is fed but a return to a mark (02, L6).
+  pub stays : (past : History) (lines : List (List ℕ)) → ((s : List ℕ) → List·Memᴰ s lines → IsReturn s → ⊥) → (area month : ℕ) →
+      1 ≤ valuesIn (linesTaken past) area month →
       valuesIn (linesTaken (allFed past lines)) area month ≡ valuesIn (linesTaken past) area month
   -- Every loan taken from 200501 to 201511 has both its values,
   pub settled : (past : History) (s : List ℕ) (l : Loan) → List·Memᴰ s (linesTaken past) → ShowsInRange s (loan l) → Indexed l →

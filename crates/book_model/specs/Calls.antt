@@ -1,13 +1,15 @@
 -- Opening, feeding and closing a book as functions: the contracts of the calls equate their answers with these.
-use Prim.Native.Nat.{ℕ, _+_, _*_, _≤_}
+use Prim.Native.Nat.{ℕ, suc, _+_, _*_, _≤_}
 use mathlib.Core.Bool.{Bool, _||_}
-use mathlib.Core.List.{List}
+use mathlib.Core.Path.{_≡_}
+use mathlib.Core.List.{List, []}
 use lib.Dec.{ltb, eqb}
-use lib.ListN.{length}
+use lib.ListN.{length, getD, set}
 use Rattle.exact.specs.Choice.{pick}
 use Rattle.line_forms.specs.declared.Header.{Header}
 use Rattle.line_forms.specs.declared.HeaderLine.{HeaderLine}
 use Rattle.line_forms.specs.declared.HeaderLine.the-variants.{Header as HeaderRead, Refusal as HeaderRefusal}
+use Rattle.line_forms.specs.declared.MarkLine.{MarkLine}
 use Rattle.line_forms.specs.declared.Content.{Content}
 use Rattle.line_forms.specs.declared.Line.{Line}
 use Rattle.line_forms.specs.Claims.{lineContent}
@@ -28,7 +30,8 @@ use Rattle.book_model.specs.declared.Opened.{Opened}
 use Rattle.book_model.specs.Accepted.{mostOther, refusalFor}
 use Rattle.book_model.specs.Cells.{noCells, cellsWith, CellsBounded}
 use Rattle.book_model.specs.HouseIndex.{valuesAt, noIndex, indexWith, indexLine, IndexSound}
-use Rattle.book_model.specs.LineKinds.{kindOf, withIndexed}
+use Rattle.book_model.specs.LineKinds.{ofMark, kindOf, withIndexed}
+use Rattle.book_model.specs.Marks.{mostMarks, placeAmong, rowOf, nameIn, bookIn, cellsIn, indexIn, noMarks, namesIn, freeRow, keptIn, firstMarks}
 use Rattle.book_model.specs.Share.{share}
 use Rattle.book_model.specs.Terms.{Terms, Basis, under, termsFor}
 
@@ -38,9 +41,10 @@ pub record State : Type 0 where
   pub rates : List ℕ
   pub cells : List ℕ
   pub index : List ℕ
+  pub marks : List (List ℕ)
 
-abbrev pub stateAt : Book → (rates cells index : List ℕ) → State
-stateAt b rates cells index = record { book = b; rates = rates; cells = cells; index = index }
+abbrev pub stateAt : Book → (rates cells index : List ℕ) → (marks : List (List ℕ)) → State
+stateAt b rates cells index marks = record { book = b; rates = rates; cells = cells; index = index; marks = marks }
 
 -- what it was opened under
 abbrev pub termsIn : State → Terms
@@ -75,7 +79,7 @@ abbrev pub emptyBook : Header → Book
 emptyBook h = record { header = h; sums = noSums; indexed = 0 }
 
 abbrev pub emptyState : Terms → State
-emptyState t = stateAt (emptyBook (t .header)) (t .rates) noCells noIndex
+emptyState t = stateAt (emptyBook (t .header)) (t .rates) noCells noIndex noMarks
 
 -- Its refusal, 0 for none: the header's first; then 10, where the sheet of factors lent breaks a rule (02, L3).
 unfoldable pub openingRefusal : (sheet : List ℕ) → HeaderLine → ℕ
@@ -93,7 +97,7 @@ opening sheet line = openingFor sheet (headerOf line)
 
 -- the refusal that a line meets in a book
 abbrev pub refusalIn : State → Line → ℕ
-refusalIn s l = refusalFor (basisIn s) (countsOf (s .book)) (kindOf l)
+refusalIn s l = refusalFor (basisIn s) (countsOf (s .book)) (keptIn (s .marks)) (kindOf l)
 
 -- The book after a line that met the refusal n, 0 for none, with what the line adds: a refused line changes nothing.
 abbrev pub bookWith : ℕ → Book → (added : Sums) (indexed : ℕ) → Book
@@ -113,10 +117,31 @@ cellsAfter s l = tableWith (refusalIn s l) (basisIn s) (lineContent l) (s .cells
 unfoldable pub indexAfter : State → Line → List ℕ
 indexAfter s l = pick (eqb (refusalIn s l) 0) (indexWith (lineContent l) (s .index)) (s .index)
 
+-- the state after a line that is neither a mark nor a return
+abbrev pub stateAfter : State → Line → State
+stateAfter s l = stateAt (bookAfter s l) (s .rates) (cellsAfter s l) (indexAfter s l) (s .marks)
+
+-- 02, L6: a mark keeps the book as it is, all its tables included, in the first free row;
+abbrev pub marked : State → (name : ℕ) → State
+marked s name = stateAt (s .book) (s .rates) (s .cells) (s .index) (set (s .marks) (freeRow (s .marks)) (rowOf name (s .book) (s .cells) (s .index)))
+
+-- a return makes it so again, and drops the marks set after that one.
+abbrev pub rowNamed : State → (name : ℕ) → ℕ
+rowNamed s name = placeAmong name (namesIn (s .marks))
+
+abbrev pub backAt : State → (row : ℕ) → State
+backAt s row =
+    stateAt (bookIn (s .book .header) (getD (s .marks) row [])) (s .rates) (cellsIn (getD (s .marks) row [])) (indexIn (getD (s .marks) row []))
+    (firstMarks (suc row) (s .marks))
+
+-- the state after either that met the refusal n
+unfoldable pub stateMarked : ℕ → State → MarkLine → State
+stateMarked n s m = pick (eqb n 0) (pick (m .back) (backAt s (rowNamed s (m .name))) (marked s (m .name))) s
+
 unfoldable pub feedingLine : State → Line → Answer
 feedingLine s l = record {
   refusal = refusalIn s l;
-  state = stateAt (bookAfter s l) (s .rates) (cellsAfter s l) (indexAfter s l);
+  state = ofMark (stateMarked (refusalIn s l) s) (stateAfter s l) (lineContent l);
 }
 
 abbrev pub feeding : State → List ℕ → Answer
@@ -133,12 +158,25 @@ pub record SoundBook (b : Book) : Type 0 where
   pub header-scores : b .header .unscored + b .header .fresh ≤ b .header .loans
   pub held : b .header .held ≤ 10000000000000
 
+-- and of a row in which a mark is kept: what a return to it gives
+pub record RowSound (h : Header) (row : List ℕ) : Type 0 where
+  pub size : length row ≡ 1844
+  pub book : SoundBook (bookIn h row)
+  pub cells : CellsBounded (cellsIn row) (4 * bookIn h row .sums .counts .loans)
+  pub index : IndexSound (indexIn row) (bookIn h row .indexed)
+
+pub record MarksSound (h : Header) (marks : List (List ℕ)) : Type 0 where
+  pub rows : length marks ≡ mostMarks
+  pub each : (i : ℕ) → 1 ≤ nameIn (getD marks i []) → RowSound h (getD marks i [])
+
 -- and of the tables lent with it
 pub record Sound (s : State) : Type 0 where
   pub book : SoundBook (s .book)
   pub rates : RatesInRange (s .rates)
   pub cells : CellsBounded (s .cells) (4 * s .book .sums .counts .loans)
+  pub cells-size : length (s .cells) ≡ 240
   pub index : IndexSound (s .index) (s .book .indexed)
+  pub marks : MarksSound (s .book .header) (s .marks)
 
 -- Closing, which writes a text into a buffer of at least so many bytes
 

@@ -10,7 +10,7 @@ use Rattle.loan_charge.specs.declared.Score.the-variants.{Scored, Unscored}
 use Rattle.line_forms.specs.declared.Loan.{Loan}
 use Rattle.line_forms.specs.declared.Content.{Content}
 use Rattle.line_forms.specs.declared.Content.the-variants.{Header as header, Loan as loan, Policy as policy, Derivative as derivative, Asset as asset}
-use Rattle.line_forms.specs.declared.Content.the-variants.{Amount as amount, Index as index, NoForm}
+use Rattle.line_forms.specs.declared.Content.the-variants.{Amount as amount, Index as index, Mark as mark, NoForm}
 use Rattle.cell_report.specs.declared.Cell.{Cell}
 use Rattle.cell_report.specs.CellReport.{placeOf}
 use Rattle.book_model.specs.declared.Adjustment.{Adjustment}
@@ -50,6 +50,7 @@ ofLoan f x (derivative d) = x
 ofLoan f x (asset a) = x
 ofLoan f x (amount a) = x
 ofLoan f x (index i) = x
+ofLoan f x (mark m) = x
 ofLoan f x NoForm = x
 
 -- no loan in any cell

@@ -10,20 +10,22 @@ use Rattle.book_model.specs.declared.Book.{Book}
 use Rattle.book_model.specs.Calls.{State, SoundBook, Sound, opening, feeding, reportOf, closing, closed, cellsTextOf, closingCells, closedCells}
 use Rattle.book_model.specs.Cells.{noCells}
 use Rattle.book_model.specs.HouseIndex.{noIndex}
+use Rattle.book_model.specs.Marks.{noMarks}
 
--- The value of a refused opening: an all-zero header and no line taken, under the regulator's table, no loan in any cell and no index value.
+-- The value of a refused opening: an all-zero header and no line taken, under the regulator's table, no loan in any cell, no index value and no mark.
 abbrev pub refusedState : State
 refusedState = record {
   book = record { header = record { loans = 0; unscored = 0; fresh = 0; held = 0 }; sums = noSums; indexed = 0 };
   rates = builtInRates;
   cells = noCells;
   index = noIndex;
+  marks = noMarks;
 }
 
 pub record Demand1 : Type 0 where
   -- The answer is 0, or the number of a refusal that document 01, or a request of 02, names for the call.
   pub opening-numbers : (sheet line : List ℕ) → List·Memᴰ (opening sheet line .refusal) (0 ∷ 1 ∷ 2 ∷ 7 ∷ 3 ∷ 4 ∷ 10 ∷ [])
-  pub feeding-numbers : (s : State) (line : List ℕ) → List·Memᴰ (feeding s line .refusal) (0 ∷ 1 ∷ 2 ∷ 7 ∷ 3 ∷ 5 ∷ 12 ∷ 8 ∷ 11 ∷ [])
+  pub feeding-numbers : (s : State) (line : List ℕ) → List·Memᴰ (feeding s line .refusal) (0 ∷ 1 ∷ 2 ∷ 7 ∷ 3 ∷ 5 ∷ 12 ∷ 8 ∷ 11 ∷ 13 ∷ 14 ∷ 15 ∷ [])
   pub closing-numbers : (b : Book) (size : ℕ) → List·Memᴰ (closing b size .refusal) (0 ∷ 6 ∷ 9 ∷ [])
   pub cells-numbers : (b : Book) (cells : List ℕ) (size : ℕ) → List·Memᴰ (closingCells b cells size .refusal) (0 ∷ 6 ∷ 9 ∷ [])
   -- Refused, an opening gives no book but the value above, a feeding the same state, every place of its tables included, and a closing

@@ -1,12 +1,12 @@
 -- Demand 2: when, and only when, opening, feeding and closing are refused, and with which number (document 01, "Who can be turned down").
 -- From request L3 on the forms and ranges of the requests of 02 that have landed count as document 01's, and a book is opened and a line
--- taken only where no refusal named in them applies. Up to now these are 10, for a sheet of factors, and 11 and 12, for index values;
--- L5 adds fresh loans to what 4, 5 and 6 count.
+-- taken only where no refusal named in them applies. Up to now these are 10, for a sheet of factors, 11 and 12, for index values, and 13 to
+-- 15, for marks; L5 adds fresh loans to what 4, 5 and 6 count. Where marks were returned to, the lines taken are those still standing.
 -- Lines are spoken of by `bytesOf`, how a form's data is written, and not by any reader; counts by inequalities. Proved in
 -- proofs/Demand2.antt.
 use Prim.Native.Nat.{ℕ, _+_, _≤_, _<_}
 use mathlib.Core.Path.{_≡_}
-use mathlib.Core.Bool.{false}
+use mathlib.Core.Bool.{Bool, true, false}
 use mathlib.Core.List.{List, List·Memᴰ}
 use mathlib.Core.Logic.{_↔_, _⊎_}
 use lib.ListN.{length}
@@ -18,18 +18,18 @@ use Rattle.line_forms.specs.declared.IndexValue.{IndexValue}
 use Rattle.line_forms.specs.declared.Loan.{Loan}
 use Rattle.line_forms.specs.declared.Content.{Content}
 use Rattle.line_forms.specs.declared.Content.the-variants.{Header as header, Loan as loan, Policy as policy, Derivative as derivative, Asset as asset}
-use Rattle.line_forms.specs.declared.Content.the-variants.{Amount as amount, Index as index, NoForm}
+use Rattle.line_forms.specs.declared.Content.the-variants.{Amount as amount, Index as index, Mark as mark, NoForm}
 use Rattle.line_forms.specs.Contents.{inRange}
 use Rattle.line_forms.specs.Claims.{Shows, ShowsInRange, AfterHeader, NoBytes}
 use Rattle.figures.specs.declared.Counts.{Counts}
-use Rattle.book_model.specs.Accepted.{Accepted, countsIn}
+use Rattle.book_model.specs.Accepted.{Note, Accepted, countsIn}
 use Rattle.book_model.specs.Calls.{Answer, emptyState, opening, feeding, closing, closingCells}
 use Rattle.book_model.specs.Demand3.{afterLines}
 use Rattle.book_model.specs.History.{opened, allFed, termsOf, acceptedOf}
 use Rattle.book_model.specs.LineKinds.{lineCounts}
 use Rattle.book_model.specs.Terms.{Terms, underSheet}
 
--- data of a form that is neither a header's nor a loan's
+-- data of a form that counts among the lines that are not loans: neither a header's nor a loan's, no mark and no return (02, L6)
 abbrev pub OtherForm : Content → Type 0
 OtherForm (header h) = ⊥
 OtherForm (loan l) = ⊥
@@ -38,6 +38,7 @@ OtherForm (derivative d) = Unit {0}
 OtherForm (asset a) = Unit {0}
 OtherForm (amount a) = Unit {0}
 OtherForm (index i) = Unit {0}
+OtherForm (mark m) = ⊥
 OtherForm NoForm = ⊥
 
 -- 02, L5: a score with age up to 12
@@ -96,20 +97,36 @@ ValuesSet kept l = Indexed l → IsSet kept (l .area) (l .from) × IsSet kept (l
 abbrev pub ValueMissing : List (List ℕ) → Loan → Type 0
 ValueMissing kept l = Indexed l × ((IsSet kept (l .area) (l .from) → ⊥) ⊎ (IsSet kept (l .area) 201512 → ⊥))
 
--- data of a form other than the header's that meets no refusal where the lines `kept` are taken
-abbrev pub Fits : Header → (kept : List (List ℕ)) → Content → Type 0
-Fits h kept (header x) = ⊥
-Fits h kept (loan l) = LoanFits h (countsIn kept) (l .score) × ValuesSet kept l
-Fits h kept (policy p) = countsIn kept .other < 100000
-Fits h kept (derivative d) = countsIn kept .other < 100000
-Fits h kept (asset a) = countsIn kept .other < 100000
-Fits h kept (amount a) = countsIn kept .other < 100000
-Fits h kept (index i) = (countsIn kept .other < 100000) × (IsSet kept (i .area) (i .month) → ⊥)
-Fits h kept NoForm = ⊥
+-- 02, L6: the ledger has a note under this name
+pub record IsNoted (notes : List Note) (name : ℕ) : Type 0 where
+  pub note : Note
+  pub kept : List·Memᴰ note notes
+  pub named : note .name ≡ name
 
--- n is what feeding s answers under the terms t where the lines `a` are taken
+-- a line that is a return to a mark
+abbrev pub IsReturn : List ℕ → Type 0
+IsReturn s = (name : ℕ) × ShowsInRange s (mark (record { back = true; name = name }))
+
+-- a return (true) to a name that is kept; a mark (false) whose name is not, where fewer than eight are
+abbrev pub MarkFits : (back : Bool) → List Note → (name : ℕ) → Type 0
+MarkFits true notes name = IsNoted notes name
+MarkFits false notes name = (IsNoted notes name → ⊥) × (length notes < 8)
+
+-- data of a form other than the header's that meets no refusal where the ledger is `a`
+abbrev pub Fits : Header → Accepted → Content → Type 0
+Fits h a (header x) = ⊥
+Fits h a (loan l) = LoanFits h (countsIn (a .kept)) (l .score) × ValuesSet (a .kept) l
+Fits h a (policy p) = countsIn (a .kept) .other < 100000
+Fits h a (derivative d) = countsIn (a .kept) .other < 100000
+Fits h a (asset x) = countsIn (a .kept) .other < 100000
+Fits h a (amount x) = countsIn (a .kept) .other < 100000
+Fits h a (index i) = (countsIn (a .kept) .other < 100000) × (IsSet (a .kept) (i .area) (i .month) → ⊥)
+Fits h a (mark m) = MarkFits (m .back) (a .notes) (m .name)
+Fits h a NoForm = ⊥
+
+-- n is what feeding s answers under the terms t where the ledger is `a`
 pub record FeedingAnswer (t : Terms) (a : Accepted) (s : List ℕ) (n : ℕ) : Type 0 where
-  pub taken : (n ≡ 0) ↔ ((c : Content) × ShowsInRange s c × Fits (t .header) (a .kept) c)
+  pub taken : (n ≡ 0) ↔ ((c : Content) × ShowsInRange s c × Fits (t .header) a c)
   pub number-1 : (n ≡ 1) ↔ (240 < length s)
   pub number-2 : (n ≡ 2) ↔ ((length s ≤ 240) × NoBytes s)
   pub number-7 : (n ≡ 7) ↔ ((x : Header) × Shows s (header x))
@@ -118,6 +135,11 @@ pub record FeedingAnswer (t : Terms) (a : Accepted) (s : List ℕ) (n : ℕ) : T
   pub number-12 : (n ≡ 12) ↔ ((l : Loan) × ShowsInRange s (loan l) × LoanFits (t .header) (countsIn (a .kept)) (l .score) × ValueMissing (a .kept) l)
   pub number-8 : (n ≡ 8) ↔ ((c : Content) × OtherForm c × ShowsInRange s c × (100000 ≤ countsIn (a .kept) .other))
   pub number-11 : (n ≡ 11) ↔ ((i : IndexValue) × ShowsInRange s (index i) × (countsIn (a .kept) .other < 100000) × IsSet (a .kept) (i .area) (i .month))
+  -- 02, L6: 13 before 14
+  pub number-13 : (n ≡ 13) ↔ ((name : ℕ) × ShowsInRange s (mark (record { back = false; name = name })) × IsNoted (a .notes) name)
+  pub number-14 : (n ≡ 14) ↔
+      ((name : ℕ) × ShowsInRange s (mark (record { back = false; name = name })) × (IsNoted (a .notes) name → ⊥) × (8 ≤ length (a .notes)))
+  pub number-15 : (n ≡ 15) ↔ ((name : ℕ) × ShowsInRange s (mark (record { back = true; name = name })) × (IsNoted (a .notes) name → ⊥))
 
 -- lines with the counts c are fewer loans than the header counts, fewer without a score or fewer with a fresh one; or no fewer of any
 abbrev pub CountsShort : Header → Counts → Type 0

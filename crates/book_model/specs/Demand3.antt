@@ -2,12 +2,15 @@
 -- proved with no hypothesis in proofs/Demand3.antt, and through the calls themselves in the crate histories.
 use Prim.Native.Nat.{ℕ, _+_, _*_}
 use mathlib.Core.Path.{_≡_}
+use mathlib.Core.Bool.{true, false}
 use mathlib.Core.Logic.{_↔_}
 use mathlib.Core.List.{List, [], _∷_, _++_, List·Permᴰ}
 use lib.ListN.{length, take}
 use Rattle.exact.specs.Fraction.{Fraction, quotient, whole, ceiling, _⊕_, _≼_, _≺_}
 use Rattle.exact.specs.Quantity.{Determined, AtMost, ExceedsByLess, AtEveryOrder, SomeAllowed}
 use Rattle.exact.specs.Text.{text}
+use Rattle.line_forms.specs.declared.Content.the-variants.{Mark as mark}
+use Rattle.line_forms.specs.Claims.{ShowsInRange}
 use Rattle.figures.specs.declared.Figures.{Figures}
 use Rattle.figures.specs.Figures.{figuresFrom}
 use Rattle.report.specs.Decimal.{digits, valueOf}
@@ -15,7 +18,7 @@ use Rattle.report.specs.Line.{line, onto}
 use Rattle.book_report.specs.Report.{reportText}
 use Rattle.book_model.specs.declared.Book.{Book}
 use Rattle.book_model.specs.declared.Closed.{Closed}
-use Rattle.book_model.specs.Accepted.{Accepted, countsIn, refusalOf, accept}
+use Rattle.book_model.specs.Accepted.{Note, Accepted, countsIn, refusalOf, accept}
 use Rattle.book_model.specs.Calls.{State, opening, feeding, closing, closed, closingRefusal, reportSize}
 use Rattle.book_model.specs.Exact.{exactRest, exactMoved, requirement}
 use Rattle.book_model.specs.History.{opened, allFed, termsOf, acceptedOf, linesTaken, sumsOf}
@@ -54,12 +57,22 @@ pub record Writes (least : ℕ) (t : Terms) (a : Accepted) (text : List ℕ) (an
   pub written : (buffer : List ℕ) → answer (length buffer) .refusal ≡ 0 → left buffer ≡ onto buffer text
   pub told : (size : ℕ) → answer size .refusal ≡ 0 → answer size .length ≡ length text
 
+-- What the ledger does with a line that feeding takes: it adds the line; or at a mark notes its list under the name; or at a return takes
+-- up again the list noted under that name, and drops the marks set after that one (02, L6).
+pub data LedgerTakes (t : Terms) (a : Accepted) (line : List ℕ) : Type 0 where
+  adds : accept t a line ≡ record { kept = a .kept ++ (line ∷ []); notes = a .notes } → LedgerTakes t a line
+  notes : (name : ℕ) → ShowsInRange line (mark (record { back = false; name = name })) →
+      accept t a line ≡ record { kept = a .kept; notes = a .notes ++ (record { name = name; list = a .kept } ∷ []) } → LedgerTakes t a line
+  returns : (before : List Note) (note : Note) (after : List Note) → ShowsInRange line (mark (record { back = true; name = note .name })) →
+      a .notes ≡ before ++ (note ∷ after) → accept t a line ≡ record { kept = note .list; notes = before ++ (note ∷ []) } → LedgerTakes t a line
+
 -- What holds of a state under terms t with the lines `a` taken.
 pub record Closes (t : Terms) (a : Accepted) (s : State) : Type 0 where
   -- The next feeding answers what the accepted lines say.
   pub answers : (line : List ℕ) → feeding s line .refusal ≡ refusalOf t a line
-  -- It takes a line exactly when the list of accepted lines grows by it.
-  pub taken : (line : List ℕ) → (feeding s line .refusal ≡ 0) ↔ (accept t a line .kept ≡ a .kept ++ (line ∷ []))
+  -- It takes a line exactly when the ledger adds it, notes its list under it or returns by it; any other leaves the ledger as it is.
+  pub taken : (line : List ℕ) → (feeding s line .refusal ≡ 0) ↔ LedgerTakes t a line
+  pub left : (line : List ℕ) → (feeding s line .refusal ≡ 0 → ⊥) → accept t a line ≡ a
   -- Closing writes the report of the lines taken.
   pub report : Writes reportSize t a (reportFor t (a .kept)) (closing (s .book)) (closed (s .book))
 

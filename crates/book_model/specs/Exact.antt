@@ -12,7 +12,7 @@ use Rattle.line_forms.specs.declared.Item.{Item}
 use Rattle.line_forms.specs.declared.Item.the-variants.{Claims, Lossc, Stated, Equity, Aoci, B, C}
 use Rattle.line_forms.specs.declared.Content.{Content}
 use Rattle.line_forms.specs.declared.Content.the-variants.{Header as header, Loan as loan, Policy as policy, Derivative as derivative, Asset as asset}
-use Rattle.line_forms.specs.declared.Content.the-variants.{Amount as amount, Index as index, NoForm}
+use Rattle.line_forms.specs.declared.Content.the-variants.{Amount as amount, Index as index, Mark as mark, NoForm}
 use Rattle.line_forms.specs.Claims.{lineContent}
 use Rattle.line_forms.specs.Readings.{lineOf}
 use Rattle.other_charges.specs.Charges.{assetCharge, shareCharge, claimsPercent, lossComponentsPercent, statedPercent, derivativeCharge, provision}
@@ -74,6 +74,7 @@ exactShare g (derivative d) =
 exactShare g (asset a) = charged (assetCharge (a .amount) (a .factor))
 exactShare g (amount a) = exactAmount (a .item) (a .amount .plus)
 exactShare g (index i) = nothing
+exactShare g (mark m) = nothing
 exactShare g NoForm = nothing
 
 -- of a line

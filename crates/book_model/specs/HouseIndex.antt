@@ -11,7 +11,7 @@ use Rattle.line_forms.specs.declared.IndexValue.{IndexValue}
 use Rattle.line_forms.specs.declared.Loan.{Loan}
 use Rattle.line_forms.specs.declared.Content.{Content}
 use Rattle.line_forms.specs.declared.Content.the-variants.{Header as header, Loan as loan, Policy as policy, Derivative as derivative, Asset as asset}
-use Rattle.line_forms.specs.declared.Content.the-variants.{Amount as amount, Index as index, NoForm}
+use Rattle.line_forms.specs.declared.Content.the-variants.{Amount as amount, Index as index, Mark as mark, NoForm}
 use Rattle.book_model.specs.declared.Adjustment.{Adjustment}
 use Rattle.book_model.specs.LineKinds.{sumBy}
 
@@ -41,6 +41,7 @@ ofIndex f x (derivative d) = x
 ofIndex f x (asset a) = x
 ofIndex f x (amount a) = x
 ofIndex f x (index i) = f i
+ofIndex f x (mark m) = x
 ofIndex f x NoForm = x
 
 -- what a line sets for an area and month

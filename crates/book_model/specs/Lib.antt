@@ -12,9 +12,11 @@ pub mod History
 pub mod HouseIndex
 pub mod LineKinds
 pub mod LoanTable
+pub mod Marks
 pub mod OwnFactors
 pub mod Ranges
 pub mod Requirement
 pub mod Share
+pub mod Standing
 pub mod Steps
 pub mod Terms

@@ -4,13 +4,14 @@ use Prim.Native.Nat.{_+_, _≤_, _<_, _%_}
 use Rattle.line_forms.specs.declared.Header.{Header}
 use Rattle.line_forms.specs.declared.IndexValue.{IndexValue}
 use Rattle.line_forms.specs.declared.Loan.{Loan}
+use Rattle.line_forms.specs.declared.MarkLine.{MarkLine}
 use Rattle.line_forms.specs.declared.Policy.{Policy}
 use Rattle.line_forms.specs.declared.Derivative.{Derivative}
 use Rattle.line_forms.specs.declared.Asset.{Asset}
 use Rattle.line_forms.specs.declared.Amount.{Amount}
 use Rattle.line_forms.specs.declared.Content.{Content}
 use Rattle.line_forms.specs.declared.Content.the-variants.{Header as header, Loan as loan, Policy as policy, Derivative as derivative, Asset as asset}
-use Rattle.line_forms.specs.declared.Content.the-variants.{Amount as amount, Index as index, NoForm}
+use Rattle.line_forms.specs.declared.Content.the-variants.{Amount as amount, Index as index, Mark as mark, NoForm}
 use Rattle.line_forms.specs.declared.HeaderLine.{HeaderLine}
 use Rattle.line_forms.specs.declared.HeaderLine.the-variants.{Header as HeaderRead, Refusal as HeaderRefusal}
 use Rattle.cell_report.specs.declared.Cell.{Cell}
@@ -49,6 +50,9 @@ pub record IndexRanges (i : IndexValue) : Type 0 where
   pub value-least : 1 ≤ i .value
   pub value-most : i .value ≤ 1000000
 
+pub record MarkRanges (m : MarkLine) : Type 0 where
+  pub name-least : 1 ≤ m .name
+
 abbrev pub Ranged : Content → Type 0
 Ranged (header h) = Unit {0}
 Ranged (loan l) = LoanRanges l
@@ -57,6 +61,7 @@ Ranged (derivative d) = DerivativeRanges d
 Ranged (asset a) = AssetRanges a
 Ranged (amount a) = AmountRanges a
 Ranged (index i) = IndexRanges i
+Ranged (mark m) = MarkRanges m
 Ranged NoForm = Unit {0}
 
 -- What a loan's property value is adjusted by where both values are set.

@@ -13,7 +13,7 @@ use Rattle.line_forms.specs.declared.Item.{Item}
 use Rattle.line_forms.specs.declared.Item.the-variants.{Claims, Lossc, Stated, Equity, Aoci, B, C}
 use Rattle.line_forms.specs.declared.Content.{Content}
 use Rattle.line_forms.specs.declared.Content.the-variants.{Header as header, Loan as loan, Policy as policy, Derivative as derivative, Asset as asset}
-use Rattle.line_forms.specs.declared.Content.the-variants.{Amount as amount, Index as index, NoForm}
+use Rattle.line_forms.specs.declared.Content.the-variants.{Amount as amount, Index as index, Mark as mark, NoForm}
 use Rattle.other_charges.specs.Charges.{claimsPercent, lossComponentsPercent, statedPercent}
 use Rattle.other_charges.specs.Parts.{assetParts, shareParts, derivativeParts, provisionParts}
 use Rattle.figures.specs.declared.Money.{Money}
@@ -98,7 +98,7 @@ amountShare Aoci x = capitalShare zeroSigned x 0 0
 amountShare B x = capitalShare zeroSigned zeroSigned (x .plus) 0
 amountShare C x = capitalShare zeroSigned zeroSigned 0 (x .plus)
 
--- What the data of a line adds; an index value and a refused line add nothing.
+-- What the data of a line adds; an index value, a mark, a return and a refused line add nothing.
 unfoldable pub share : Basis → Content → Sums
 share g (header h) = noSums
 share g (loan l) = loanShare g l
@@ -107,4 +107,5 @@ share g (derivative d) = derivativeShare d
 share g (asset a) = assetShare a
 share g (amount a) = amountShare (a .item) (a .amount)
 share g (index i) = noSums
+share g (mark m) = noSums
 share g NoForm = noSums

@@ -14,6 +14,7 @@ use driver::Run;
 use house_index::Index;
 use loan_charge::charge::Exponentials;
 use loan_charge::credit::Rates;
+use marks::Marks;
 use sheet_file::Numbers;
 use sheet_file::Room;
 
@@ -39,14 +40,18 @@ fn read_once(
     rates: &mut Rates,
     cells: &mut Cells,
     index: &mut Index,
+    marks: &mut Marks,
     buf: &mut [u8],
 ) -> Turn
-    requires { ⌜ Running run (now rates) (now cells) (now index) × (run .read + length (now buf) ≤ 2 ^ 62) × (now exps ≡ exponentials) ⌝ }
+    requires { ⌜ Running run (now rates) (now cells) (now index) (now marks) × (run .read + length (now buf) ≤ 2 ^ 62) × (now exps ≡ exponentials) ⌝ }
     ensures reading { λ r.
-        ⌜ ReadsOn (readingOf run (now (sheet .entry)) (now (rates .entry)) (now (cells .entry)) (now (index .entry)))
-        (readingOf (r .run) (now (sheet .entry)) (now (rates .exit)) (now (cells .exit)) (now (index .exit))) (r .count) (now (buf .exit)) ⌝ }
-    ensures running { λ r. ⌜ Running (r .run) (now (rates .exit)) (now (cells .exit)) (now (index .exit)) × (r .run .read ≡ run .read + r .count) ⌝ }
-    ensures ends { λ r. ⌜ EndsReading (readingOf (r .run) (now (sheet .entry)) (now (rates .exit)) (now (cells .exit)) (now (index .exit))) (r .count)
+        ⌜ ReadsOn (readingOf run (now (sheet .entry)) (now (rates .entry)) (now (cells .entry)) (now (index .entry)) (now (marks .entry)))
+        (readingOf (r .run) (now (sheet .entry)) (now (rates .exit)) (now (cells .exit)) (now (index .exit)) (now (marks .exit))) (r .count) (now (buf .exit))
+        ⌝ }
+    ensures running { λ r. ⌜ Running (r .run) (now (rates .exit)) (now (cells .exit)) (now (index .exit)) (now (marks .exit)) ×
+        (r .run .read ≡ run .read + r .count) ⌝ }
+    ensures ends { λ r. ⌜ EndsReading (readingOf (r .run) (now (sheet .entry)) (now (rates .exit)) (now (cells .exit)) (now (index .exit))
+        (now (marks .exit))) (r .count)
         (r .more) (r .failed) ⌝ }
 {
     let got = libc::read(0, buf);
@@ -59,7 +64,7 @@ fn read_once(
         };
     }
     let n = io::count(got, buf);
-    let next = driver::step(run, exps, sheet, rates, cells, index, &buf[0..n]);
+    let next = driver::step(run, exps, sheet, rates, cells, index, marks, &buf[0..n]);
     let p = next.progress;
     let more = (0 < n) & (p.refusal == 0) & (next.held <= line_forms::LONGEST_LINE);
     Turn {
@@ -77,19 +82,22 @@ fn read_all(
     rates: &mut Rates,
     cells: &mut Cells,
     index: &mut Index,
+    marks: &mut Marks,
     buf: &mut [u8],
 ) -> Turn
     requires { ⌜ (now exps ≡ exponentials) × (length (now buf) ≡ 65536) ⌝ }
-    ensures reached { λ r. ⌜ Reached (now (sheet .entry)) (readingOf (r .run) (now (sheet .entry)) (now (rates .exit)) (now (cells .exit)) (now (index .exit)))
+    ensures reached { λ r. ⌜ Reached (now (sheet .entry)) (readingOf (r .run) (now (sheet .entry)) (now (rates .exit)) (now (cells .exit)) (now (index .exit))
+        (now (marks .exit)))
         (r .run .read) ⌝ }
-    ensures running { λ r. ⌜ Running (r .run) (now (rates .exit)) (now (cells .exit)) (now (index .exit)) × (r .run .read ≤ 2 ^ 62) ⌝ }
-    ensures ends { λ r. ⌜ EndsReading (readingOf (r .run) (now (sheet .entry)) (now (rates .exit)) (now (cells .exit)) (now (index .exit))) (r .count) false
+    ensures running { λ r. ⌜ Running (r .run) (now (rates .exit)) (now (cells .exit)) (now (index .exit)) (now (marks .exit)) × (r .run .read ≤ 2 ^ 62) ⌝ }
+    ensures ends { λ r. ⌜ EndsReading (readingOf (r .run) (now (sheet .entry)) (now (rates .exit)) (now (cells .exit)) (now (index .exit))
+        (now (marks .exit))) (r .count) false
         (r .failed) ⌝ }
 {
-    let mut run = driver::start(rates, cells, index);
+    let mut run = driver::start(rates, cells, index, marks);
     let mut turns = MOST_READS;
     while 0 < turns {
-        let turn = read_once(run, exps, sheet, rates, cells, index, buf);
+        let turn = read_once(run, exps, sheet, rates, cells, index, marks, buf);
         if !turn.more {
             return turn;
         }
@@ -110,9 +118,18 @@ fn print(asked: bool, sheet: &[u64]) {
     let mut rates = [0u64; loan_charge::credit::RATES];
     let mut cells = [0u64; cell_report::PLACES];
     let mut index = [0u64; house_index::PLACES];
+    let mut marks = marks::none();
     let mut buf = io::large_buffer();
     let mut out = [0u8; OUT];
-    let turn = read_all(&exps, sheet, &mut rates, &mut cells, &mut index, &mut buf);
+    let turn = read_all(
+        &exps,
+        sheet,
+        &mut rates,
+        &mut cells,
+        &mut index,
+        &mut marks,
+        &mut buf,
+    );
     if turn.failed {
         io::write_all(2, b"capital: reading standard input failed\n");
         return;
@@ -125,6 +142,7 @@ fn print(asked: bool, sheet: &[u64]) {
         &mut rates,
         &mut cells,
         &mut index,
+        &mut marks,
         asked,
         &mut out,
     );

@@ -7,11 +7,13 @@ use native.Mathlib.Omega.{arith}
 use lib.Dec.{eqb}
 use borrow.Author.Tests.{eq-eqb, ne-eqb, eqb-true, eqb-false}
 use Rattle.exact.specs.Choice.{pick}
+use Rattle.line_forms.specs.Readings.{lineOf}
 use Rattle.book_model.specs.declared.Book.{Book}
 use Rattle.book_model.specs.declared.Fed.{Fed}
 use Rattle.book_model.specs.declared.Opened.{Opened}
-use Rattle.book_model.specs.Calls.{State, Answer, stateAt, openedOf, fedOf, opening, feedingLine, feeding, Sound}
+use Rattle.book_model.specs.Calls.{State, Answer, stateAt, openedOf, fedOf, opening, feeding, Sound}
 use Rattle.book_model.proofs.Demand1.{demand1}
+use Rattle.book_model.proofs.Feeding.{rates-kept}
 use Rattle.driver.specs.declared.Progress.{Progress}
 use Rattle.driver.specs.Reading.{Stage, after, withLine, stageAt, progressAfter}
 
@@ -56,18 +58,14 @@ line-number p line =
 
 -- What the code's answers stand for
 
--- feeding leaves the rates
-fed-rates : (s : State) (line : List ℕ) → feeding s line .state .rates ≡ s .rates
-unfolding feedingLine
-fed-rates s line = refl
-
 -- the stage of a progress that an answer gave
-answer-stage : (a : Answer) (number : ℕ) {n : ℕ} {b : Book} {q : Progress} (sheet rates cells index : List ℕ) → q ≡ progressAfter n number b →
-    n ≡ a .refusal → b ≡ a .state .book → rates ≡ a .state .rates → cells ≡ a .state .cells → index ≡ a .state .index →
-    stageAt q sheet rates cells index ≡ after a number sheet
-answer-stage a number {n} {b} {q} sheet rates cells index p e f g h k =
-    ap (λ (x : Progress). stageAt x sheet rates cells index) p
-    ∙ (λ i. record { refusal = e i; number = pick (eqb (e i) 0) (number + 1) number; sheet = sheet; state = stateAt (f i) (g i) (h i) (k i) })
+answer-stage : (a : Answer) (number : ℕ) {n : ℕ} {b : Book} {q : Progress} (sheet rates cells index : List ℕ)
+    (marks : List (List ℕ)) → q ≡ progressAfter n number b →
+    n ≡ a .refusal → b ≡ a .state .book → rates ≡ a .state .rates → cells ≡ a .state .cells → index ≡ a .state .index → marks ≡ a .state .marks →
+    stageAt q sheet rates cells index marks ≡ after a number sheet
+answer-stage a number {n} {b} {q} sheet rates cells index marks p e f g h k m =
+    ap (λ (x : Progress). stageAt x sheet rates cells index marks) p
+    ∙ (λ i. record { refusal = e i; number = pick (eqb (e i) 0) (number + 1) number; sheet = sheet; state = stateAt (f i) (g i) (h i) (k i) (m i) })
 
 -- What end_line ensures: q is the stage it gives.
 abbrev pub Ended : Stage → List ℕ → Stage → Type 0
@@ -83,28 +81,33 @@ ended-by p line q h e = (
 )
 
 -- q is the progress that it gives, and the tables are as the call left them
-module _ (p : Progress) (sheet rates cells index line : List ℕ) (sound : Sound (stateAt (p .book) rates cells index)) where
-  pub ended-refused : (p .refusal ≡ 0 → ⊥) → Ended (stageAt p sheet rates cells index) line (stageAt p sheet rates cells index)
+module _ (p : Progress) (sheet rates cells index : List ℕ) (marks : List (List ℕ)) (line : List ℕ)
+    (sound : Sound (stateAt (p .book) rates cells index marks)) where
+  pub ended-refused : (p .refusal ≡ 0 → ⊥) → Ended (stageAt p sheet rates cells index marks) line (stageAt p sheet rates cells index marks)
   ended-refused h =
-      ended-by (stageAt p sheet rates cells index) line (stageAt p sheet rates cells index) sound (line-refused (stageAt p sheet rates cells index) line h)
+      ended-by (stageAt p sheet rates cells index marks) line (stageAt p sheet rates cells index marks) sound
+      (line-refused (stageAt p sheet rates cells index marks) line h)
 
-  pub ended-opened : (o : Opened) (q : Progress) (after-rates after-cells after-index : List ℕ) → p .refusal ≡ 0 → p .number ≡ 1 →
+  pub ended-opened : (o : Opened) (q : Progress) (after-rates after-cells after-index : List ℕ) (after-marks : List (List ℕ)) → p .refusal ≡ 0 → p .number ≡ 1 →
       o ≡ openedOf (opening sheet line) → after-rates ≡ opening sheet line .state .rates → after-cells ≡ opening sheet line .state .cells →
-      after-index ≡ opening sheet line .state .index →
+      after-index ≡ opening sheet line .state .index → after-marks ≡ opening sheet line .state .marks →
       q ≡ progressAfter (o .refusal) (p .number) (o .book) →
-      Ended (stageAt p sheet rates cells index) line (stageAt q sheet after-rates after-cells after-index)
-  ended-opened o q after-rates after-cells after-index e f g m k n h =
-      ended-by (stageAt p sheet rates cells index) line (stageAt q sheet after-rates after-cells after-index) sound
-      (answer-stage (opening sheet line) (p .number) sheet after-rates after-cells after-index h (ap (λ (x : Opened). x .refusal) g)
-      (ap (λ (x : Opened). x .book) g) m k n
-      ∙ line-opens (stageAt p sheet rates cells index) line e f)
+      Ended (stageAt p sheet rates cells index marks) line (stageAt q sheet after-rates after-cells after-index after-marks)
+  ended-opened o q after-rates after-cells after-index after-marks e f g m k n j h =
+      ended-by (stageAt p sheet rates cells index marks) line (stageAt q sheet after-rates after-cells after-index after-marks) sound
+      (answer-stage (opening sheet line) (p .number) sheet after-rates after-cells after-index after-marks h (ap (λ (x : Opened). x .refusal) g)
+      (ap (λ (x : Opened). x .book) g) m k n j
+      ∙ line-opens (stageAt p sheet rates cells index marks) line e f)
 
-  pub ended-fed : (o : Fed) (q : Progress) (after-cells after-index : List ℕ) → p .refusal ≡ 0 → (p .number ≡ 1 → ⊥) →
-      o ≡ fedOf (feeding (stateAt (p .book) rates cells index) line) → after-cells ≡ feeding (stateAt (p .book) rates cells index) line .state .cells →
-      after-index ≡ feeding (stateAt (p .book) rates cells index) line .state .index →
-      q ≡ progressAfter (o .refusal) (p .number) (o .book) → Ended (stageAt p sheet rates cells index) line (stageAt q sheet rates after-cells after-index)
-  ended-fed o q after-cells after-index e f g k n h =
-      ended-by (stageAt p sheet rates cells index) line (stageAt q sheet rates after-cells after-index) sound
-      (answer-stage (feeding (stateAt (p .book) rates cells index) line) (p .number) sheet rates after-cells after-index h (ap (λ (x : Fed). x .refusal) g)
-      (ap (λ (x : Fed). x .book) g) (sym (fed-rates (stateAt (p .book) rates cells index) line)) k n
-      ∙ line-fed (stageAt p sheet rates cells index) line e f)
+  pub ended-fed : (o : Fed) (q : Progress) (after-cells after-index : List ℕ) (after-marks : List (List ℕ)) → p .refusal ≡ 0 → (p .number ≡ 1 → ⊥) →
+      o ≡ fedOf (feeding (stateAt (p .book) rates cells index marks) line) →
+      after-cells ≡ feeding (stateAt (p .book) rates cells index marks) line .state .cells →
+      after-index ≡ feeding (stateAt (p .book) rates cells index marks) line .state .index →
+      after-marks ≡ feeding (stateAt (p .book) rates cells index marks) line .state .marks →
+      q ≡ progressAfter (o .refusal) (p .number) (o .book) →
+      Ended (stageAt p sheet rates cells index marks) line (stageAt q sheet rates after-cells after-index after-marks)
+  ended-fed o q after-cells after-index after-marks e f g k n j h =
+      ended-by (stageAt p sheet rates cells index marks) line (stageAt q sheet rates after-cells after-index after-marks) sound
+      (answer-stage (feeding (stateAt (p .book) rates cells index marks) line) (p .number) sheet rates after-cells after-index after-marks h
+      (ap (λ (x : Fed). x .refusal) g) (ap (λ (x : Fed). x .book) g) (sym (rates-kept (stateAt (p .book) rates cells index marks) (lineOf line))) k n j
+      ∙ line-fed (stageAt p sheet rates cells index marks) line e f)

@@ -47,22 +47,24 @@ held-ended p tail held rest q h l u s e r n =
     ∙ line-ended p (take held tail) u))
 
 -- What read_lines, step and start ensure of a run.
-abbrev pub Reads : Run → (sheet rates cells index : List ℕ) → Reading → ℕ → Type 0
-Reads r sheet rates cells index s n = (readingOf r sheet rates cells index ≡ s) × (Running r rates cells index × (r .read ≡ n))
+abbrev pub Reads : Run → (sheet rates cells index : List ℕ) → (marks : List (List ℕ)) → Reading → ℕ → Type 0
+Reads r sheet rates cells index marks s n = (readingOf r sheet rates cells index marks ≡ s) × (Running r rates cells index marks × (r .read ≡ n))
 
 -- Lines from a place where one begins: what is left over is held.
-pub lines-read : (p : Stage) (q : Progress) (sheet rates cells index bytes before tail : List ℕ) (rest held read : ℕ) →
-    record { stage = stageAt q sheet rates cells index; tail = [] } ≡ withBytes (record { stage = p; tail = [] }) (take rest bytes) → rest ≤ length bytes →
+pub lines-read : (p : Stage) (q : Progress) (sheet rates cells index : List ℕ) (marks : List (List ℕ)) (bytes before tail : List ℕ) (rest held read : ℕ) →
+    record { stage = stageAt q sheet rates cells index marks; tail = [] } ≡ withBytes (record { stage = p; tail = [] }) (take rest bytes) →
+    rest ≤ length bytes →
     unbroken (drop rest bytes) ≡ true →
-    Sound (stateAt (q .book) rates cells index) → q .number ≤ p .number + rest → p .number + length bytes ≤ 1 + read →
+    Sound (stateAt (q .book) rates cells index marks) → q .number ≤ p .number + rest → p .number + length bytes ≤ 1 + read →
     take held tail ≡ withTail (take 0 before) (take (length bytes - rest) (drop rest bytes)) → held ≤ 241 → length tail ≡ 242 →
-    Reads (record { progress = q; held = held; tail = tail; read = read }) sheet rates cells index (withBytes (record { stage = p; tail = [] }) bytes) read
+    Reads (record { progress = q; held = held; tail = tail; read = read }) sheet rates cells index marks (withBytes (record { stage = p; tail = [] }) bytes)
+    read
 unfolding unbroken
-lines-read p q sheet rates cells index bytes before tail rest held read e r u s n m t h l =
+lines-read p q sheet rates cells index marks bytes before tail rest held read e r u s n m t h l =
     let d : length (drop rest bytes) ≡ length bytes - rest = length-drop rest bytes in
     let left : take held tail ≡ withTail [] (drop rest bytes) = t ∙ ap (withTail []) (take-all (length bytes - rest) (drop rest bytes) (omega arith)) in (
-      (λ i. record { stage = stageAt q sheet rates cells index; tail = left i }) ∙ sym
-          (bytes-tail (drop rest bytes) (stageAt q sheet rates cells index) [] (omega arith) u)
+      (λ i. record { stage = stageAt q sheet rates cells index marks; tail = left i }) ∙ sym
+          (bytes-tail (drop rest bytes) (stageAt q sheet rates cells index marks) [] (omega arith) u)
           ∙ ap (λ (x : Reading). withBytes x (drop rest bytes)) e
           ∙ sym (bytes-append (record { stage = p; tail = [] }) (take rest bytes) (drop rest bytes))
           ∙ ap (withBytes (record { stage = p; tail = [] })) (take-append-drop rest bytes),
@@ -73,13 +75,15 @@ lines-read p q sheet rates cells index bytes before tail rest held read e r u s 
     )
 
 -- a run with nothing held
-pub none-held : {q : Run} (run : Run) (sheet rates cells index chunk : List ℕ) (read : ℕ) {after-rates after-cells after-index : List ℕ} → run .held ≡ 0 →
-    Reads q sheet after-rates after-cells after-index (withBytes (record { stage = stageAt (run .progress) sheet rates cells index; tail = [] }) chunk) read →
-    Reads q sheet after-rates after-cells after-index (withBytes (readingOf run sheet rates cells index) chunk) read
-none-held run sheet rates cells index chunk read e r =
-    (r .0 ∙ ap (λ (n : ℕ). withBytes (record { stage = stageAt (run .progress) sheet rates cells index; tail = take n (run .tail) }) chunk) (sym e), r .1)
+pub none-held : {q : Run} (run : Run) (sheet rates cells index : List ℕ) (marks : List (List ℕ)) (chunk : List ℕ) (read : ℕ)
+    {after-rates after-cells after-index : List ℕ} {after-marks : List (List ℕ)} → run .held ≡ 0 →
+    Reads q sheet after-rates after-cells after-index after-marks
+    (withBytes (record { stage = stageAt (run .progress) sheet rates cells index marks; tail = [] }) chunk) read →
+    Reads q sheet after-rates after-cells after-index after-marks (withBytes (readingOf run sheet rates cells index marks) chunk) read
+none-held run sheet rates cells index marks chunk read e r =
+    (r .0 ∙ ap (λ (n : ℕ). withBytes (record { stage = stageAt (run .progress) sheet rates cells index marks; tail = take n (run .tail) }) chunk) (sym e), r .1)
 
-module _ (run : Run) (sheet rates cells index chunk : List ℕ) (running : Running run rates cells index) (end : ℕ)
+module _ (run : Run) (sheet rates cells index : List ℕ) (marks : List (List ℕ)) (chunk : List ℕ) (running : Running run rates cells index marks) (end : ℕ)
     (found : end ≡ 0 + indexOf newline (drop 0 chunk)) where
   few : length (take (run .held) (run .tail)) ≤ 241
   few = rw (length-take (run .held) (run .tail)) (omega (arith, running .held))
@@ -98,36 +102,36 @@ module _ (run : Run) (sheet rates cells index chunk : List ℕ) (running : Runni
   -- no line ends in the chunk
   pub all-held : (n : ℕ) (tail : List ℕ) → take n tail ≡ withTail (take (run .held) (run .tail)) (take (end - 0) chunk) → n ≤ 241 → length tail ≡ 242 →
       length chunk ≤ end → end ≤ length chunk →
-      Reads (record { progress = run .progress; held = n; tail = tail; read = run .read + length chunk }) sheet rates cells index
-      (withBytes (readingOf run sheet rates cells index) chunk)
+      Reads (record { progress = run .progress; held = n; tail = tail; read = run .read + length chunk }) sheet rates cells index marks
+      (withBytes (readingOf run sheet rates cells index marks) chunk)
       (run .read + length chunk)
   all-held n tail t h l k m =
       let e = held-more n tail t in (
-        (λ i. record { stage = stageAt (run .progress) sheet rates cells index; tail = e .0 i })
-            ∙ sym (no-line (stageAt (run .progress) sheet rates cells index) (take (run .held) (run .tail)) chunk few end first (omega arith)),
+        (λ i. record { stage = stageAt (run .progress) sheet rates cells index marks; tail = e .0 i })
+            ∙ sym (no-line (stageAt (run .progress) sheet rates cells index marks) (take (run .held) (run .tail)) chunk few end first (omega arith)),
         (record { sound = running .sound; number = omega (arith, running .number); held = h; room = l; unended = e .1 }, refl),
       )
 
   -- the held line ends in the chunk, and lines follow
-  pub line-and-more : {q : Run} {after-rates after-cells after-index : List ℕ} (next : Stage) (n : ℕ) (tail : List ℕ) →
+  pub line-and-more : {q : Run} {after-rates after-cells after-index : List ℕ} {after-marks : List (List ℕ)} (next : Stage) (n : ℕ) (tail : List ℕ) →
       take n tail ≡ withTail (take (run .held) (run .tail)) (take (end - 0) chunk) →
       end < length chunk →
-      next ≡ withLine (stageAt (run .progress) sheet rates cells index) (take n tail) →
-      Reads q sheet after-rates after-cells after-index
+      next ≡ withLine (stageAt (run .progress) sheet rates cells index marks) (take n tail) →
+      Reads q sheet after-rates after-cells after-index after-marks
       (withBytes (record { stage = next; tail = [] }) (take (length chunk - (end + 1)) (drop (end + 1) chunk)))
       (run .read + length chunk) →
-      Reads q sheet after-rates after-cells after-index (withBytes (readingOf run sheet rates cells index) chunk) (run .read + length chunk)
+      Reads q sheet after-rates after-cells after-index after-marks (withBytes (readingOf run sheet rates cells index marks) chunk) (run .read + length chunk)
   line-and-more next n tail t h e r =
       let k = held-more n tail t in
       let d : length (drop (end + 1) chunk) ≡ length chunk - (end + 1) = length-drop (end + 1) chunk in (
         r .0
             ∙ ap (withBytes (record { stage = next; tail = [] })) (take-all (length chunk - (end + 1)) (drop (end + 1) chunk) (omega arith))
             ∙ ap (λ (x : Stage). withBytes (record { stage = x; tail = [] }) (drop (end + 1) chunk))
-            (e ∙ ap (withLine (stageAt (run .progress) sheet rates cells index)) (k .0))
+            (e ∙ ap (withLine (stageAt (run .progress) sheet rates cells index marks)) (k .0))
             ∙ ap (λ (x : Reading). withBytes x (drop (end + 1) chunk))
-            (sym (first-line (stageAt (run .progress) sheet rates cells index) (take (run .held) (run .tail)) chunk few end first h))
-            ∙ sym (bytes-append (readingOf run sheet rates cells index) (take (end + 1) chunk) (drop (end + 1) chunk))
-            ∙ ap (withBytes (readingOf run sheet rates cells index)) (take-append-drop (end + 1) chunk),
+            (sym (first-line (stageAt (run .progress) sheet rates cells index marks) (take (run .held) (run .tail)) chunk few end first h))
+            ∙ sym (bytes-append (readingOf run sheet rates cells index marks) (take (end + 1) chunk) (drop (end + 1) chunk))
+            ∙ ap (withBytes (readingOf run sheet rates cells index marks)) (take-append-drop (end + 1) chunk),
         r .1,
       )
 

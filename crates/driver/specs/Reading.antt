@@ -56,22 +56,22 @@ withBytes s (byte ∷ bytes) = withBytes (withByte s byte) bytes
 
 -- The code's structs: what they stand for, with the tables lent beside them.
 
-abbrev pub stageAt : Progress → (sheet rates cells index : List ℕ) → Stage
-stageAt p sheet rates cells index = record { refusal = p .refusal; number = p .number; sheet = sheet; state = stateAt (p .book) rates cells index }
+abbrev pub stageAt : Progress → (sheet rates cells index : List ℕ) → (marks : List (List ℕ)) → Stage
+stageAt p sheet rates cells index marks = record { refusal = p .refusal; number = p .number; sheet = sheet; state = stateAt (p .book) rates cells index marks }
 
 abbrev pub progressAfter : (refusal number : ℕ) → Book → Progress
 progressAfter refusal number b = record { refusal = refusal; number = pick (eqb refusal 0) (number + 1) number; book = b }
 
-abbrev pub readingOf : Run → (sheet rates cells index : List ℕ) → Reading
-readingOf r sheet rates cells index = record { stage = stageAt (r .progress) sheet rates cells index; tail = take (r .held) (r .tail) }
+abbrev pub readingOf : Run → (sheet rates cells index : List ℕ) → (marks : List (List ℕ)) → Reading
+readingOf r sheet rates cells index marks = record { stage = stageAt (r .progress) sheet rates cells index marks; tail = take (r .held) (r .tail) }
 
 -- It is at the start, whatever sheet the first line will open a book under.
-abbrev pub AtStart : Run → (rates cells index : List ℕ) → Type 0
-AtStart r rates cells index = (sheet : List ℕ) → readingOf r sheet rates cells index ≡ fromStart sheet
+abbrev pub AtStart : Run → (rates cells index : List ℕ) → (marks : List (List ℕ)) → Type 0
+AtStart r rates cells index marks = (sheet : List ℕ) → readingOf r sheet rates cells index marks ≡ fromStart sheet
 
 -- What every run assures: its book is sound, each line read had a byte that ended it, and no byte that is held ends a line.
-pub record Running (r : Run) (rates cells index : List ℕ) : Type 0 where
-  pub sound : Sound (stateAt (r .progress .book) rates cells index)
+pub record Running (r : Run) (rates cells index : List ℕ) (marks : List (List ℕ)) : Type 0 where
+  pub sound : Sound (stateAt (r .progress .book) rates cells index marks)
   pub number : r .progress .number ≤ 1 + r .read
   pub held : r .held ≤ mostHeld
   pub room : length (r .tail) ≡ 242

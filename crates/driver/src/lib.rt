@@ -17,6 +17,7 @@ use line_bytes::Tail;
 use line_forms::Header;
 use loan_charge::charge::Exponentials;
 use loan_charge::credit::Rates;
+use marks::Marks;
 
 // What the lines read so far gave: the refusal, 0 for none, the number of the line to be read or of the refused one, and the book.
 pub struct Progress {
@@ -41,14 +42,15 @@ fn no_bytes() -> Tail
 }
 
 // Before any byte is read: what stands is the value of a refused opening.
-pub fn start(rates: &mut Rates, cells: &mut Cells, index: &mut Index) -> Run
-    ensures equation { λ r. ⌜ AtStart r (now (rates .exit)) (now (cells .exit)) (now (index .exit)) ⌝ }
-    ensures running { λ r. ⌜ Running r (now (rates .exit)) (now (cells .exit)) (now (index .exit)) ⌝ }
+pub fn start(rates: &mut Rates, cells: &mut Cells, index: &mut Index, marks: &mut Marks) -> Run
+    ensures equation { λ r. ⌜ AtStart r (now (rates .exit)) (now (cells .exit)) (now (index .exit)) (now (marks .exit)) ⌝ }
+    ensures running { λ r. ⌜ Running r (now (rates .exit)) (now (cells .exit)) (now (index .exit)) (now (marks .exit)) ⌝ }
     ensures none { λ r. ⌜ r .read ≡ 0 ⌝ }
 {
     *rates = sheet::built_in_rates();
     cells::clear(cells);
     house_index::clear(index);
+    marks::clear(marks);
     let header = Header {
         loans: 0,
         unscored: 0,
@@ -93,13 +95,14 @@ fn end_line(
     rates: &mut Rates,
     cells: &mut Cells,
     index: &mut Index,
+    marks: &mut Marks,
     line: &[u8],
 ) -> Progress
-    requires { ⌜ Sound (stateAt (p .book) (now rates) (now cells) (now index)) × (p .number < 2 ^ 63) × (now exps ≡ exponentials) ⌝ }
+    requires { ⌜ Sound (stateAt (p .book) (now rates) (now cells) (now index) (now marks)) × (p .number < 2 ^ 63) × (now exps ≡ exponentials) ⌝ }
     ensures equation { λ r.
-        ⌜ stageAt r (now (sheet .entry)) (now (rates .exit)) (now (cells .exit)) (now (index .exit)) ≡
-        withLine (stageAt p (now (sheet .entry)) (now (rates .entry)) (now (cells .entry)) (now (index .entry))) (now (line .entry)) ⌝ }
-    ensures sound { λ r. ⌜ Sound (stateAt (r .book) (now (rates .exit)) (now (cells .exit)) (now (index .exit))) ⌝ }
+        ⌜ stageAt r (now (sheet .entry)) (now (rates .exit)) (now (cells .exit)) (now (index .exit)) (now (marks .exit)) ≡
+        withLine (stageAt p (now (sheet .entry)) (now (rates .entry)) (now (cells .entry)) (now (index .entry)) (now (marks .entry))) (now (line .entry)) ⌝ }
+    ensures sound { λ r. ⌜ Sound (stateAt (r .book) (now (rates .exit)) (now (cells .exit)) (now (index .exit)) (now (marks .exit))) ⌝ }
     ensures number { λ r. ⌜ r .number ≤ p .number + 1 ⌝ }
 {
     if p.refusal != 0 {
@@ -107,12 +110,12 @@ fn end_line(
     }
     let number = p.number;
     if number == 1 {
-        let opened = book::open_sheet(line, sheet, rates, cells, index);
+        let opened = book::open_sheet(line, sheet, rates, cells, index, marks);
         let book = opened.book;
         return answered(opened.refusal, number, book);
     }
     let before = p.book;
-    let fed = book::feed_with(before, exps, rates, cells, index, line);
+    let fed = book::feed_with(before, exps, rates, cells, index, marks, line);
     let book = fed.book;
     answered(fed.refusal, number, book)
 }
@@ -131,16 +134,24 @@ fn lines(
     rates: &mut Rates,
     cells: &mut Cells,
     index: &mut Index,
+    marks: &mut Marks,
     bytes: &[u8],
 ) -> LinesRead
-    requires { ⌜ Sound (stateAt (before .book) (now rates) (now cells) (now index)) × (before .number + length (now bytes) < 2 ^ 63) ×
+    requires { ⌜ Sound (stateAt (before .book) (now rates) (now cells) (now index) (now marks)) × (before .number + length (now bytes) < 2 ^ 63) ×
         (now exps ≡ exponentials) ⌝ }
     ensures equation { λ r.
-        ⌜ record { stage = stageAt (r .progress) (now (sheet .entry)) (now (rates .exit)) (now (cells .exit)) (now (index .exit)); tail = [] } ≡
-        withBytes (record { stage = stageAt before (now (sheet .entry)) (now (rates .entry)) (now (cells .entry)) (now (index .entry)); tail = [] })
+        ⌜ record {
+          stage = stageAt (r .progress) (now (sheet .entry)) (now (rates .exit)) (now (cells .exit)) (now (index .exit)) (now (marks .exit));
+          tail =
+              [];
+        } ≡
+        withBytes (record {
+          stage = stageAt before (now (sheet .entry)) (now (rates .entry)) (now (cells .entry)) (now (index .entry)) (now (marks .entry));
+          tail = [];
+        })
         (take (r .rest) (now (bytes .entry))) ⌝ }
     ensures rest { λ r. ⌜ (r .rest ≤ length (now (bytes .entry))) × (unbroken (drop (r .rest) (now (bytes .entry))) ≡ true) ⌝ }
-    ensures sound { λ r. ⌜ Sound (stateAt (r .progress .book) (now (rates .exit)) (now (cells .exit)) (now (index .exit))) ⌝ }
+    ensures sound { λ r. ⌜ Sound (stateAt (r .progress .book) (now (rates .exit)) (now (cells .exit)) (now (index .exit)) (now (marks .exit))) ⌝ }
     ensures number { λ r. ⌜ r .progress .number ≤ before .number + r .rest ⌝ }
 {
     let size = bytes.len();
@@ -154,7 +165,7 @@ fn lines(
                 rest: i,
             };
         }
-        p = end_line(p, exps, sheet, rates, cells, index, &bytes[i..end]);
+        p = end_line(p, exps, sheet, rates, cells, index, marks, &bytes[i..end]);
         i = end + 1;
     }
     LinesRead {
@@ -173,18 +184,20 @@ fn end_held(
     rates: &mut Rates,
     cells: &mut Cells,
     index: &mut Index,
+    marks: &mut Marks,
 ) -> Progress
-    requires { ⌜ Sound (stateAt (p .book) (now rates) (now cells) (now index)) × (p .number + 242 < 2 ^ 63) × (now exps ≡ exponentials)
+    requires { ⌜ Sound (stateAt (p .book) (now rates) (now cells) (now index) (now marks)) × (p .number + 242 < 2 ^ 63) × (now exps ≡ exponentials)
         × (held ≤ mostHeld) × (length (now tail) ≡ 242) × (unbroken (take held (now tail)) ≡ true) ⌝ }
     ensures equation { λ r.
-        ⌜ stageAt r (now (sheet .entry)) (now (rates .exit)) (now (cells .exit)) (now (index .exit)) ≡
-        withLine (stageAt p (now (sheet .entry)) (now (rates .entry)) (now (cells .entry)) (now (index .entry))) (take held (now (tail .entry))) ⌝ }
-    ensures sound { λ r. ⌜ Sound (stateAt (r .book) (now (rates .exit)) (now (cells .exit)) (now (index .exit))) ⌝ }
+        ⌜ stageAt r (now (sheet .entry)) (now (rates .exit)) (now (cells .exit)) (now (index .exit)) (now (marks .exit)) ≡
+        withLine (stageAt p (now (sheet .entry)) (now (rates .entry)) (now (cells .entry)) (now (index .entry)) (now (marks .entry)))
+        (take held (now (tail .entry))) ⌝ }
+    ensures sound { λ r. ⌜ Sound (stateAt (r .book) (now (rates .exit)) (now (cells .exit)) (now (index .exit)) (now (marks .exit))) ⌝ }
     ensures number { λ r. ⌜ r .number ≤ p .number + 1 ⌝ }
 {
     tail[held] = b'\n';
     let end = held + 1;
-    let read = lines(p, exps, sheet, rates, cells, index, &tail[0..end]);
+    let read = lines(p, exps, sheet, rates, cells, index, marks, &tail[0..end]);
     read.progress
 }
 
@@ -197,21 +210,26 @@ fn read_lines(
     rates: &mut Rates,
     cells: &mut Cells,
     index: &mut Index,
+    marks: &mut Marks,
     bytes: &[u8],
     read: usize,
 ) -> Run
-    requires { ⌜ Sound (stateAt (p .book) (now rates) (now cells) (now index)) × (p .number + length (now bytes) ≤ 1 + read) × (read ≤ 2 ^ 62) ×
+    requires { ⌜ Sound (stateAt (p .book) (now rates) (now cells) (now index) (now marks)) × (p .number + length (now bytes) ≤ 1 + read) × (read ≤ 2 ^ 62) ×
         (now exps ≡ exponentials)
         × (length before ≡ 242) ⌝ }
     ensures equation { λ r.
-        ⌜ readingOf r (now (sheet .entry)) (now (rates .exit)) (now (cells .exit)) (now (index .exit)) ≡
-        withBytes (record { stage = stageAt p (now (sheet .entry)) (now (rates .entry)) (now (cells .entry)) (now (index .entry)); tail = [] })
+        ⌜ readingOf r (now (sheet .entry)) (now (rates .exit)) (now (cells .exit)) (now (index .exit)) (now (marks .exit)) ≡
+        withBytes (record {
+          stage = stageAt p (now (sheet .entry)) (now (rates .entry)) (now (cells .entry)) (now (index .entry)) (now (marks .entry));
+          tail =
+              [];
+        })
         (now (bytes .entry)) ⌝ }
-    ensures running { λ r. ⌜ Running r (now (rates .exit)) (now (cells .exit)) (now (index .exit)) ⌝ }
+    ensures running { λ r. ⌜ Running r (now (rates .exit)) (now (cells .exit)) (now (index .exit)) (now (marks .exit)) ⌝ }
     ensures read { λ r. ⌜ r .read ≡ read ⌝ }
 {
     let size = bytes.len();
-    let all = lines(p, exps, sheet, rates, cells, index, bytes);
+    let all = lines(p, exps, sheet, rates, cells, index, marks, bytes);
     let rest = all.rest;
     let mut tail = before;
     let held = line_bytes::hold(&mut tail, 0, &bytes[rest..size]);
@@ -232,13 +250,15 @@ pub fn step(
     rates: &mut Rates,
     cells: &mut Cells,
     index: &mut Index,
+    marks: &mut Marks,
     chunk: &[u8],
 ) -> Run
-    requires { ⌜ Running run (now rates) (now cells) (now index) × (run .read + length (now chunk) ≤ 2 ^ 62) × (now exps ≡ exponentials) ⌝ }
+    requires { ⌜ Running run (now rates) (now cells) (now index) (now marks) × (run .read + length (now chunk) ≤ 2 ^ 62) × (now exps ≡ exponentials) ⌝ }
     ensures equation { λ r.
-        ⌜ readingOf r (now (sheet .entry)) (now (rates .exit)) (now (cells .exit)) (now (index .exit)) ≡
-        withBytes (readingOf run (now (sheet .entry)) (now (rates .entry)) (now (cells .entry)) (now (index .entry))) (now (chunk .entry)) ⌝ }
-    ensures running { λ r. ⌜ Running r (now (rates .exit)) (now (cells .exit)) (now (index .exit)) ⌝ }
+        ⌜ readingOf r (now (sheet .entry)) (now (rates .exit)) (now (cells .exit)) (now (index .exit)) (now (marks .exit)) ≡
+        withBytes (readingOf run (now (sheet .entry)) (now (rates .entry)) (now (cells .entry)) (now (index .entry)) (now (marks .entry)))
+        (now (chunk .entry)) ⌝ }
+    ensures running { λ r. ⌜ Running r (now (rates .exit)) (now (cells .exit)) (now (index .exit)) (now (marks .exit)) ⌝ }
     ensures read { λ r. ⌜ r .read ≡ run .read + length (now (chunk .entry)) ⌝ }
 {
     let size = chunk.len();
@@ -247,7 +267,18 @@ pub fn step(
     let held = run.held;
     let mut tail = run.tail;
     if held == 0 {
-        return read_lines(p, tail, exps, sheet, rates, cells, index, chunk, read);
+        return read_lines(
+            p,
+            tail,
+            exps,
+            sheet,
+            rates,
+            cells,
+            index,
+            marks,
+            chunk,
+            read,
+        );
     }
     let end = line_bytes::newlines::line_end(chunk, 0);
     let n = line_bytes::hold(&mut tail, held, &chunk[0..end]);
@@ -259,7 +290,7 @@ pub fn step(
             read,
         };
     }
-    let next = end_held(p, &mut tail, n, exps, sheet, rates, cells, index);
+    let next = end_held(p, &mut tail, n, exps, sheet, rates, cells, index, marks);
     let from = end + 1;
     read_lines(
         next,
@@ -269,6 +300,7 @@ pub fn step(
         rates,
         cells,
         index,
+        marks,
         &chunk[from..size],
         read,
     )
@@ -282,17 +314,19 @@ pub fn finish(
     rates: &mut Rates,
     cells: &mut Cells,
     index: &mut Index,
+    marks: &mut Marks,
     asked: bool,
     out: &mut [u8],
 ) -> usize
-    requires { ⌜ Running run (now rates) (now cells) (now index) × (run .read ≤ 2 ^ 62) × (now exps ≡ exponentials)
+    requires { ⌜ Running run (now rates) (now cells) (now index) (now marks) × (run .read ≤ 2 ^ 62) × (now exps ≡ exponentials)
         × (reportSize + cellsSize ≤ length (now out)) ⌝ }
     ensures equation { λ r.
         ⌜ Written (now (out .entry)) (printedFor asked
-        (ended (readingOf run (now (sheet .entry)) (now (rates .entry)) (now (cells .entry)) (now (index .entry))))) r
+        (ended (readingOf run (now (sheet .entry)) (now (rates .entry)) (now (cells .entry)) (now (index .entry)) (now (marks .entry))))) r
         (now (out .exit)) ⌝ }
     ensures whole { λ r.
-        ⌜ PrintsWhole asked (readingOf run (now (sheet .entry)) (now (rates .entry)) (now (cells .entry)) (now (index .entry))) (now (out .entry)) r
+        ⌜ PrintsWhole asked (readingOf run (now (sheet .entry)) (now (rates .entry)) (now (cells .entry)) (now (index .entry)) (now (marks .entry)))
+        (now (out .entry)) r
         (now (out .exit)) ⌝ }
 {
     let p = run.progress;
@@ -302,7 +336,17 @@ pub fn finish(
         return printing::put_answer(p.refusal, p.number, book, cells, asked, out);
     }
     let mut tail = run.tail;
-    let last = end_held(p, &mut tail, unended, exps, sheet, rates, cells, index);
+    let last = end_held(
+        p,
+        &mut tail,
+        unended,
+        exps,
+        sheet,
+        rates,
+        cells,
+        index,
+        marks,
+    );
     let book = last.book;
     printing::put_answer(last.refusal, last.number, book, cells, asked, out)
 }

@@ -1,73 +1,84 @@
--- Demands 1 to 3 of the calls, and requests L1 and L3 to L5, from the theorems about the definitions that their contracts cite. Assumes nothing.
+-- Demands 1 to 3 of the calls, and requests L1 and L3 to L6, from the theorems about the definitions that their contracts cite. Assumes nothing.
 use mathlib.Core.Path.{_≡_, refl, sym, _∙_, ap, ap₂, subst}
-use mathlib.Core.List.{List, [], _∷_}
+use mathlib.Core.List.{List, [], _∷_, List·Memᴰ, List·Memᴰ·head, List·Memᴰ·tail, List·Memᴰ·not-nil}
 use Prim.Native.Nat.{ℕ, _≤_}
 use lib.ListN.{length, take}
 use Rattle.loan_charge.specs.CreditFactor.{builtInSheet, ratesOf}
 use Rattle.sheet.specs.Sheet.{SheetRules}
 use Rattle.line_forms.specs.declared.Header.{Header}
+use Rattle.line_forms.specs.Readings.{lineOf}
 use Rattle.report.specs.Line.{onto}
 use Rattle.book_model.specs.declared.Book.{Book}
 use Rattle.book_model.specs.declared.Closed.{Closed}
 use Rattle.book_model.specs.declared.Fed.{Fed}
 use Rattle.book_model.specs.declared.Opened.{Opened}
-use Rattle.book_model.specs.Accepted.{Accepted, countsIn}
-use Rattle.book_model.specs.Calls.{State, Answer, stateAt, termsIn, openedOf, fedOf, opening, feedingLine, feeding, closing, closed, closingCells, Sound}
+use Rattle.book_model.specs.Accepted.{Accepted, countsIn, refusalOf}
+use Rattle.book_model.specs.Calls.{State, Answer, stateAt, termsIn, openedOf, fedOf, opening, feeding, closing, closed, closingCells, Sound}
 use Rattle.book_model.specs.Calls.{reportSize, cellsSize, closedCells}
+use Rattle.book_model.specs.Demand2.{IsReturn}
 use Rattle.book_model.specs.Demand3.{Writes, Closes, SameTexts, SameReports}
 use Rattle.book_model.specs.FreshScores.{CountsKept, CountsMet}
 use Rattle.book_model.specs.History.{History, fed, allFed, headerLine, sheetOf, termsOf, acceptedOf, linesTaken}
 use Rattle.book_model.specs.LoanTable.{WritesCells, SameTables}
 use Rattle.book_model.specs.HouseIndex.{InTable, valuesIn, valuesAt}
+use Rattle.book_model.specs.Marks.{namesIn}
+use Rattle.book_model.specs.Standing.{SameBook}
 use Rattle.book_model.specs.Terms.{Terms, basisOf, under}
 use Rattle.book_model.proofs.AdjustedValues.{adjusted-values}
 use Rattle.book_model.proofs.Demand1.{demand1}
 use Rattle.book_model.proofs.Demand2.{openings, feeding-answer, closing-answer}
 use Rattle.book_model.proofs.Demand3.{opened-is, fed-is, terms-in-range, closes-of, measured-of, same-reports}
+use Rattle.book_model.proofs.Feeding.{rates-kept}
 use Rattle.book_model.proofs.FreshScores.{fresh-scores}
 use Rattle.book_model.proofs.LoanTable.{cell-is, cell-sums, cells-written, same-tables}
 use Rattle.book_model.proofs.IndexTables.{values-are}
-use Rattle.book_model.proofs.Ledger.{good-of}
+use Rattle.book_model.proofs.Ledger.{ledger-of, good-of}
 use Rattle.book_model.proofs.OwnFactors.{own-factors}
 use Rattle.book_model.proofs.SetValues.{not-set}
-use Rattle.book_model.proofs.Steps.{stateOf}
+use Rattle.book_model.proofs.Standing.{standing, marks, returned-to, line-fed}
+use Rattle.book_model.proofs.Steps.{stateOf, names-are}
 use Rattle.histories.specs.Demands.{CallsDemand1, CallsDemand2, CallsDemand3, CallsLoanTable, CallsOwnFactors, CallsAdjustedValues}
-use Rattle.histories.specs.Demands.{CallsFreshScores}
+use Rattle.histories.specs.Demands.{CallsFreshScores, CallsStanding}
 use Rattle.histories.specs.Given.{OpeningCall, by-open, by-open-sheet, FeedingCall, by-feed, by-feed-with, CloseCall, CellsCall}
 use Rattle.histories.specs.Given.{Given, by-opening, by-feeding}
 
 -- What each call gave, by its contract
 
--- from the four parts that a contract tells
-opened-parts : (sheet line : List ℕ) {r : Opened} {rates cells index : List ℕ} → r ≡ openedOf (opening sheet line) →
+-- from the five parts that a contract tells
+opened-parts : (sheet line : List ℕ) {r : Opened} {rates cells index : List ℕ} {marks : List (List ℕ)} → r ≡ openedOf (opening sheet line) →
     rates ≡ opening sheet line .state .rates → cells ≡ opening sheet line .state .cells → index ≡ opening sheet line .state .index →
-    record { refusal = r .refusal; state = stateAt (r .book) rates cells index } ≡ opening sheet line
-opened-parts sheet line e f g k = λ i. record { refusal = e i .refusal; state = stateAt (e i .book) (f i) (g i) (k i) }
+    marks ≡ opening sheet line .state .marks → record { refusal = r .refusal; state = stateAt (r .book) rates cells index marks } ≡ opening sheet line
+opened-parts sheet line e f g k m = λ i. record { refusal = e i .refusal; state = stateAt (e i .book) (f i) (g i) (k i) (m i) }
 
 opened-by : {sheet line : List ℕ} {a : Answer} → OpeningCall sheet line a → a ≡ opening sheet line
 opened-by (by-open c) =
-    sym (c .gave) ∙ opened-parts _ _ (c .learnt .0) (c .learnt .1 .0) (c .learnt .1 .1 .0) (c .learnt .1 .1 .1 .0) ∙ ap (opening builtInSheet) (c .lent)
+    sym (c .gave) ∙ opened-parts _ _ (c .learnt .0) (c .learnt .1 .0) (c .learnt .1 .1 .0) (c .learnt .1 .1 .1 .0)
+    (c .learnt .1 .1 .1 .1 .0) ∙ ap (opening builtInSheet) (c .lent)
 opened-by (by-open-sheet c) =
-    sym (c .gave) ∙ opened-parts _ _ (c .learnt .0) (c .learnt .1 .0) (c .learnt .1 .1 .0) (c .learnt .1 .1 .1 .0) ∙ ap₂ opening (c .factors) (c .lent)
+    sym (c .gave) ∙ opened-parts _ _ (c .learnt .0) (c .learnt .1 .0) (c .learnt .1 .1 .0) (c .learnt .1 .1 .1 .0)
+    (c .learnt .1 .1 .1 .1 .0) ∙ ap₂ opening (c .factors) (c .lent)
 
 -- feeding leaves the rates
 fed-state : (s : State) (line : List ℕ) →
-    feeding s line .state ≡ stateAt (feeding s line .state .book) (s .rates) (feeding s line .state .cells) (feeding s line .state .index)
-unfolding feedingLine
-fed-state s line = refl
+    feeding s line .state ≡
+    stateAt (feeding s line .state .book) (s .rates) (feeding s line .state .cells) (feeding s line .state .index) (feeding s line .state .marks)
+fed-state s line =
+    λ i. stateAt (feeding s line .state .book) (rates-kept s (lineOf line) i) (feeding s line .state .cells) (feeding s line .state .index)
+    (feeding s line .state .marks)
 
--- from the three parts that a contract tells
-fed-parts : (s : State) (line : List ℕ) {r : Fed} {cells index : List ℕ} → r ≡ fedOf (feeding s line) → cells ≡ feeding s line .state .cells →
-    index ≡ feeding s line .state .index → record { refusal = r .refusal; state = stateAt (r .book) (s .rates) cells index } ≡ feeding s line
-fed-parts s line e f g =
-    (λ i. record { refusal = e i .refusal; state = stateAt (e i .book) (s .rates) (f i) (g i) })
+-- from the four parts that a contract tells
+fed-parts : (s : State) (line : List ℕ) {r : Fed} {cells index : List ℕ} {marks : List (List ℕ)} → r ≡ fedOf (feeding s line) →
+    cells ≡ feeding s line .state .cells → index ≡ feeding s line .state .index → marks ≡ feeding s line .state .marks →
+    record { refusal = r .refusal; state = stateAt (r .book) (s .rates) cells index marks } ≡ feeding s line
+fed-parts s line e f g k =
+    (λ i. record { refusal = e i .refusal; state = stateAt (e i .book) (s .rates) (f i) (g i) (k i) })
     ∙ (λ i. record { refusal = feeding s line .refusal; state = sym (fed-state s line) i })
 
 fed-by : {s : State} {line : List ℕ} {a : Answer} → FeedingCall s line a → a ≡ feeding s line
 fed-by (by-feed c) =
-    sym (c .gave) ∙ fed-parts _ _ (c .learnt .0) (c .learnt .1 .0) (c .learnt .1 .1 .0) ∙ ap₂ feeding (c .handed) (c .lent)
+    sym (c .gave) ∙ fed-parts _ _ (c .learnt .0) (c .learnt .1 .0) (c .learnt .1 .1 .0) (c .learnt .1 .1 .1 .0) ∙ ap₂ feeding (c .handed) (c .lent)
 fed-by (by-feed-with c) =
-    sym (c .gave) ∙ fed-parts _ _ (c .learnt .0) (c .learnt .1 .0) (c .learnt .1 .1 .0) ∙ ap₂ feeding (c .handed) (c .lent)
+    sym (c .gave) ∙ fed-parts _ _ (c .learnt .0) (c .learnt .1 .0) (c .learnt .1 .1 .0) (c .learnt .1 .1 .1 .0) ∙ ap₂ feeding (c .handed) (c .lent)
 
 closed-by : {b : Book} {buffer after : List ℕ} {r : Closed} → CloseCall b buffer r after → (r ≡ closing b (length buffer)) × (after ≡ closed b buffer)
 closed-by c = (
@@ -89,7 +100,7 @@ given (by-feeding {h} {s} g line a c) =
     ap (λ (x : Answer). x .state) (fed-by c) ∙ ap (λ (x : State). feeding x line .state) (given g) ∙ fed-is h line
 
 closes : {h : History} {s : State} → Given h s → Closes (termsOf h) (acceptedOf h) s
-closes {h} g = rw (given g) (closes-of (termsOf h) (acceptedOf h) (good-of h))
+closes {h} g = rw (given g) (closes-of (termsOf h) (acceptedOf h) (ledger-of h))
 
 closes-cells : {h : History} {s : State} → Given h s → WritesCells (termsOf h) (acceptedOf h) s
 closes-cells {h} g = rw (given g) (cells-written (termsOf h) (acceptedOf h))
@@ -159,6 +170,7 @@ same-terms h {k} f e = given f ∙ ap (λ (t : Terms). stateOf t (acceptedOf k))
 pub calls-demand3 : CallsDemand3
 calls-demand3 = record {
   takes = λ {h} {s} g {line} {a} c. rw (fed-number c) (closes g .taken line);
+  leaves = λ {h} {s} g {line} {a} c n. closes g .left line (λ z. n (fed-number c ∙ z));
   writes = λ {h} {s} g {buffer} {after} {r} c e. written-by (closes g .report) (closed-by c) e;
   measured = λ {h} {s} g. measured-of (termsOf h) (terms-in-range h) (linesTaken h) (good-of h);
   alike = λ {h} {k} {s} {u} g f e p {x} {y} {after-x} {after-y} {r} {q} c d z w.
@@ -172,7 +184,7 @@ calls-loan-table = record {
   sums = λ {h} {s} g. cell-sums (termsOf h) (linesTaken h);
   writes = λ {h} {s} g {buffer} {after} {r} c e. written-by (closes-cells g) (cells-by c) e;
   alike = λ {h} {k} {s} {u} g f e p {x} {y} {after-x} {after-y} {r} {q} c d z w.
-      let t : SameTables s u = rw (given g, same-terms h f e) (same-tables (termsOf h) p) in
+      let t : SameTables s u = rw (given g, same-terms h f e) (same-tables (termsOf h) (acceptedOf h) (acceptedOf k) p) in
       same-by (closingCells (s .book) (s .cells)) (closingCells (u .book) (u .cells)) (closedCells (s .book) (s .cells)) (closedCells (u .book) (u .cells)) t
       x y (cells-by c) (cells-by d) z w;
 }
@@ -203,18 +215,22 @@ table-is : {h : History} {s : State} → Given h s → (area month : ℕ) → In
 table-is {h} g area month k = ap (λ (x : State). valuesAt (x .index) area month) (given g) ∙ values-are (linesTaken h) area month k
 
 -- one feeding leaves a value that is set
-stays : (h : History) (line : List ℕ) (area month : ℕ) → 1 ≤ valuesIn (linesTaken h) area month →
+stays : (h : History) (line : List ℕ) → (IsReturn line → ⊥) → (area month : ℕ) → 1 ≤ valuesIn (linesTaken h) area month →
     valuesIn (linesTaken (fed h line)) area month ≡ valuesIn (linesTaken h) area month
 unfolding allFed
-stays h line = adjusted-values .stays h (line ∷ [])
+stays h line n = adjusted-values .stays h (line ∷ []) (λ s m. only m)
+  where
+    only : {s : List ℕ} → List·Memᴰ s (line ∷ []) → IsReturn s → ⊥
+    only (List·Memᴰ·head e) r = n (subst IsReturn e r)
+    only (List·Memᴰ·tail m) r = List·Memᴰ·not-nil m
 
 pub calls-adjusted-values : CallsAdjustedValues
 calls-adjusted-values = record {
   set = λ {h} {s} g area month value k. rw (table-is g area month k) (adjusted-values .values h area month value);
   unset = λ {h} {s} g area month k. rw (table-is g area month k) (not-set (linesTaken h) area month);
-  stays = λ {h} {s} g {line} {a} c area month k n.
+  stays = λ {h} {s} g {line} {a} c r area month k n.
       let before = table-is g area month k in
-      table-is (by-feeding g line a c) area month k ∙ stays h line area month (rw before at n) ∙ sym before;
+      table-is (by-feeding g line a c) area month k ∙ stays h line r area month (rw before at n) ∙ sym before;
   settled = λ {h} {s} g. adjusted-values .settled h;
 }
 
@@ -248,4 +264,17 @@ calls-fresh-scores = record {
   one-header = λ {h} {k} {s} {u} g f e p c d z w.
       fresh-scores .one-header h k (opens g) (opens f) (ap (λ (x : Header). x .held) (header-given g) ∙ e ∙ sym (ap (λ (x : Header). x .held) (header-given f)))
       p (calls-demand2 .closings g c .writes .0 z .0) (calls-demand2 .closings f d .writes .0 w .0);
+}
+
+pub calls-standing : CallsStanding
+calls-standing = record {
+  names = λ {h} {s} g. ap (λ (x : State). namesIn (x .marks)) (given g) ∙ names-are (termsOf h) (acceptedOf h .notes);
+  most = λ {h} {s} g. standing .most h;
+  marks = λ {s} {line} {a} c name m. subst (λ (x : Answer). SameBook (x .state) s) (sym (fed-by c)) (marks s line name m);
+  again = λ {h} {k} {s} {u} g {line} {a} c e name m f t more n {back} {b} r d.
+      let gave : a ≡ record { refusal = refusalOf (termsOf h) (acceptedOf h) line; state = stateOf (termsOf h) (acceptedOf (fed h line)) } =
+      fed-by c ∙ ap (λ (x : State). feeding x line) (given g) ∙ line-fed h line in
+      let zero = sym (ap (λ (x : Answer). x .refusal) gave) ∙ e in
+      let back-gave = fed-by d ∙ ap (λ (x : State). feeding x back) (given f) ∙ returned-to h k line back name more t m r zero n in
+      (ap (λ (x : Answer). x .refusal) back-gave, ap (λ (x : Answer). x .state) back-gave ∙ sym (ap (λ (x : Answer). x .state) gave));
 }

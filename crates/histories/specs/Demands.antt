@@ -1,10 +1,10 @@
--- Demands 1 to 3 of the calls `open`, `open_sheet`, `feed`, `feed_with`, `close` and `close_cells` themselves, and requests L1 and L3 to L5.
+-- Demands 1 to 3 of the calls `open`, `open_sheet`, `feed`, `feed_with`, `close` and `close_cells` themselves, and requests L1 and L3 to L6.
 -- Proved in proofs/Demands.antt.
 use mathlib.Core.Path.{_≡_}
 use mathlib.Core.List.{List, [], _∷_, _++_, List·Memᴰ, List·Permᴰ}
 use mathlib.Core.Logic.{_↔_}
-use Prim.Native.Nat.{ℕ, _*_, _≤_, _<_}
-use lib.ListN.{length, take}
+use Prim.Native.Nat.{ℕ, _-_, _*_, _≤_, _<_}
+use lib.ListN.{length, take, replicate}
 use Rattle.loan_charge.specs.declared.Score.the-variants.{Scored}
 use Rattle.loan_charge.specs.CreditFactor.{builtInSheet, ratesOf, hundredths, band, column, entryAt}
 use Rattle.sheet.specs.Sheet.{SheetRules}
@@ -15,15 +15,17 @@ use Rattle.report.specs.Line.{onto}
 use Rattle.cell_report.specs.CellReport.{cellAt}
 use Rattle.book_model.specs.declared.Book.{Book}
 use Rattle.book_model.specs.declared.Closed.{Closed}
-use Rattle.book_model.specs.Accepted.{countsIn, accept}
+use Rattle.book_model.specs.Accepted.{Note, countsIn, namesOf, accept}
 use Rattle.book_model.specs.Calls.{State, Answer, Sound}
 use Rattle.book_model.specs.Demand1.{refusedState}
-use Rattle.book_model.specs.Demand2.{OpeningAnswer, FeedingAnswer, ClosingAnswer, IsSet, Indexed}
-use Rattle.book_model.specs.Demand3.{reportFor, Measured}
+use Rattle.book_model.specs.Demand2.{OpeningAnswer, FeedingAnswer, ClosingAnswer, IsSet, IsReturn, Indexed}
+use Rattle.book_model.specs.Demand3.{reportFor, LedgerTakes, Measured}
 use Rattle.book_model.specs.FreshScores.{CountsKept, CountsMet}
-use Rattle.book_model.specs.History.{History, headerLine, sheetOf, termsOf, acceptedOf, linesTaken}
+use Rattle.book_model.specs.History.{History, fed, headerLine, sheetOf, termsOf, acceptedOf, linesTaken}
 use Rattle.book_model.specs.HouseIndex.{InTable, valuesAt}
 use Rattle.book_model.specs.LoanTable.{cellFor, cellsFor, CellSums}
+use Rattle.book_model.specs.Marks.{namesIn}
+use Rattle.book_model.specs.Standing.{Marks, Returns, SameBook}
 use Rattle.book_model.specs.Terms.{underSheet, factorFor}
 use Rattle.histories.specs.Given.{OpenCall, OpenSheetCall, OpeningCall, FeedingCall, CloseCall, CellsCall, Given}
 
@@ -31,7 +33,8 @@ use Rattle.histories.specs.Given.{OpenCall, OpenSheetCall, OpeningCall, 
 pub record CallsDemand1 : Type 0 where
   -- The answer is 0, or the number of a refusal that document 01, or a request of 02, names for the call.
   pub opening-numbers : {sheet line : List ℕ} {a : Answer} → OpeningCall sheet line a → List·Memᴰ (a .refusal) (0 ∷ 1 ∷ 2 ∷ 7 ∷ 3 ∷ 4 ∷ 10 ∷ [])
-  pub feeding-numbers : {s : State} {line : List ℕ} {a : Answer} → FeedingCall s line a → List·Memᴰ (a .refusal) (0 ∷ 1 ∷ 2 ∷ 7 ∷ 3 ∷ 5 ∷ 12 ∷ 8 ∷ 11 ∷ [])
+  pub feeding-numbers : {s : State} {line : List ℕ} {a : Answer} → FeedingCall s line a →
+      List·Memᴰ (a .refusal) (0 ∷ 1 ∷ 2 ∷ 7 ∷ 3 ∷ 5 ∷ 12 ∷ 8 ∷ 11 ∷ 13 ∷ 14 ∷ 15 ∷ [])
   pub closing-numbers : {b : Book} {buffer after : List ℕ} {r : Closed} → CloseCall b buffer r after → List·Memᴰ (r .refusal) (0 ∷ 6 ∷ 9 ∷ [])
   pub cells-numbers : {b : Book} {cells buffer after : List ℕ} {r : Closed} → CellsCall b cells buffer r after → List·Memᴰ (r .refusal) (0 ∷ 6 ∷ 9 ∷ [])
   -- Refused, an opening gives the value of an all-zero header under the regulator's table, a feeding the same state, every place of its
@@ -55,9 +58,12 @@ pub record CallsDemand2 : Type 0 where
 
 -- Demand 3, of every state that the calls gave.
 pub record CallsDemand3 : Type 0 where
-  -- Feeding takes a line exactly when the ledger adds it.
+  -- Feeding takes a line exactly when the ledger adds it, or notes its list under it, or returns by it (02, L6); any other leaves the ledger
+  -- as it is.
   pub takes : {h : History} {s : State} → Given h s → {line : List ℕ} {a : Answer} → FeedingCall s line a →
-      (a .refusal ≡ 0) ↔ (accept (termsOf h) (acceptedOf h) line .kept ≡ linesTaken h ++ (line ∷ []))
+      (a .refusal ≡ 0) ↔ LedgerTakes (termsOf h) (acceptedOf h) line
+  pub leaves : {h : History} {s : State} → Given h s → {line : List ℕ} {a : Answer} → FeedingCall s line a → (a .refusal ≡ 0 → ⊥) →
+      accept (termsOf h) (acceptedOf h) line ≡ acceptedOf h
   -- A closing that is not refused writes the report of the lines taken from the buffer's start, and tells its length.
   pub writes : {h : History} {s : State} → Given h s → {buffer after : List ℕ} {r : Closed} → CloseCall (s .book) buffer r after → r .refusal ≡ 0 →
       (after ≡ onto buffer (reportFor (termsOf h) (linesTaken h))) × (r .length ≡ length (reportFor (termsOf h) (linesTaken h)))
@@ -101,8 +107,9 @@ pub record CallsAdjustedValues : Type 0 where
       ((line : List ℕ) × List·Memᴰ line (linesTaken h) × ShowsInRange line (index (record { area = area; month = month; value = value })))
   pub unset : {h : History} {s : State} → Given h s → (area month : ℕ) → InTable area month →
       (valuesAt (s .index) area month ≡ 0) ↔ (IsSet (linesTaken h) area month → ⊥)
-  -- a value once set stays, whatever is fed.
-  pub stays : {h : History} {s : State} → Given h s → {line : List ℕ} {a : Answer} → FeedingCall s line a → (area month : ℕ) → InTable area month →
+  -- a value once set stays, whatever is fed but a return to a mark (02, L6).
+  pub stays : {h : History} {s : State} → Given h s → {line : List ℕ} {a : Answer} → FeedingCall s line a → (IsReturn line → ⊥) → (area month : ℕ) →
+      InTable area month →
       1 ≤ valuesAt (s .index) area month → valuesAt (a .state .index) area month ≡ valuesAt (s .index) area month
   -- Every loan taken from 200501 to 201511 has both its values.
   pub settled : {h : History} {s : State} → Given h s → (line : List ℕ) (l : Loan) → List·Memᴰ line (linesTaken h) → ShowsInRange line (loan l) → Indexed l →
@@ -129,3 +136,16 @@ pub record CallsFreshScores : Type 0 where
   pub one-header : {h k : History} {s u : State} → Given h s → Given k u → s .book .header .held ≡ u .book .header .held →
       List·Permᴰ (linesTaken h) (linesTaken k) → {x y after-x after-y : List ℕ} {r q : Closed} → CloseCall (s .book) x r after-x →
       CloseCall (u .book) y q after-y → r .refusal ≡ 0 → q .refusal ≡ 0 → headerLine h ≡ headerLine k
+
+-- 02, L6, of every state that the calls gave.
+pub record CallsStanding : Type 0 where
+  -- The table lent keeps the names noted, in the order set, at most eight, and 0 in the rows without a mark.
+  pub names : {h : History} {s : State} → Given h s → namesIn (s .marks) ≡ namesOf (acceptedOf h .notes) ++ replicate (8 - length (acceptedOf h .notes)) 0
+  pub most : {h : History} {s : State} → Given h s → length (acceptedOf h .notes) ≤ 8
+  -- A mark leaves the book as it is.
+  pub marks : {s : State} {line : List ℕ} {a : Answer} → FeedingCall s line a → (name : ℕ) → Marks line name → SameBook (a .state) s
+  -- A return to it is taken and makes book and marks as they were, by whatever calls a book under the same terms came to be, as long as the
+  -- mark is kept with those before it.
+  pub again : {h k : History} {s u : State} → Given h s → {line : List ℕ} {a : Answer} → FeedingCall s line a → a .refusal ≡ 0 → (name : ℕ) → Marks line name →
+      Given k u → termsOf k ≡ termsOf h → (more : List Note) → acceptedOf k .notes ≡ acceptedOf (fed h line) .notes ++ more →
+      {back : List ℕ} {b : Answer} → Returns back name → FeedingCall u back b → (b .refusal ≡ 0) × (b .state ≡ a .state)

@@ -26,29 +26,32 @@ use Rattle.book.proofs.close.Kinds as close-kinds
 use Rattle.book.proofs.close_cells.Reads as cells-reads
 use Rattle.book.proofs.close_cells.Kinds as cells-kinds
 
--- `open` was called with this line and gave this answer: the refusal and the book by value, the tables of rates, cells and index values as
--- it left them
+-- `open` was called with this line and gave this answer: the refusal and the book by value, the tables of rates, cells, index values and
+-- marks as it left them
 pub record OpenCall (line : List ℕ) (a : Answer) : Type 0 where
-  pub lifetimes : Lfts 4
+  pub lifetimes : Lfts 5
   pub args : Dens lifetimes open-kinds.ps
   pub result : Opened
-  pub exit : AtExit (endedOf 4 open-kinds.ps open-kinds.r) lifetimes
+  pub exit : AtExit (endedOf 5 open-kinds.ps open-kinds.r) lifetimes
   pub learnt : open-reads.Learnt lifetimes args result exit
   pub lent : now (args .0) ≡ line
-  pub gave : record { refusal = result .refusal; state = stateAt (result .book) (now (exit .1 .0)) (now (exit .1 .1 .0)) (now (exit .1 .1 .1 .0)) } ≡ a
+  pub gave : record {
+    refusal = result .refusal;
+    state = stateAt (result .book) (now (exit .1 .0)) (now (exit .1 .1 .0)) (now (exit .1 .1 .1 .0)) (now (exit .1 .1 .1 .1 .0));
+  } ≡ a
 
 -- `open_sheet` was called with this sheet and this line
 pub record OpenSheetCall (sheet line : List ℕ) (a : Answer) : Type 0 where
-  pub lifetimes : Lfts 5
+  pub lifetimes : Lfts 6
   pub args : Dens lifetimes sheet-kinds.ps
   pub result : Opened
-  pub exit : AtExit (endedOf 5 sheet-kinds.ps sheet-kinds.r) lifetimes
+  pub exit : AtExit (endedOf 6 sheet-kinds.ps sheet-kinds.r) lifetimes
   pub learnt : sheet-reads.Learnt lifetimes args result exit
   pub lent : now (args .0) ≡ line
   pub factors : now (args .1 .0) ≡ sheet
   pub gave : record {
     refusal = result .refusal;
-    state = stateAt (result .book) (now (exit .1 .1 .0)) (now (exit .1 .1 .1 .0)) (now (exit .1 .1 .1 .1 .0));
+    state = stateAt (result .book) (now (exit .1 .1 .0)) (now (exit .1 .1 .1 .0)) (now (exit .1 .1 .1 .1 .0)) (now (exit .1 .1 .1 .1 .1 .0));
   } ≡ a
 
 -- either: without a sheet it is the regulator's table
@@ -58,30 +61,30 @@ pub data OpeningCall : (sheet line : List ℕ) → Answer → Type 0 where
 
 -- `feed` was handed this state, its tables lent, and this line
 pub record FeedCall (s : State) (line : List ℕ) (a : Answer) : Type 0 where
-  pub lifetimes : Lfts 4
+  pub lifetimes : Lfts 5
   pub args : Dens lifetimes feed-kinds.ps
   pub result : Fed
-  pub exit : AtExit (endedOf 4 feed-kinds.ps feed-kinds.r) lifetimes
+  pub exit : AtExit (endedOf 5 feed-kinds.ps feed-kinds.r) lifetimes
   pub learnt : feed-reads.Learnt lifetimes args result exit
-  pub handed : stateAt (args .0) (now (args .1 .0)) (now (args .1 .1 .0)) (now (args .1 .1 .1 .0)) ≡ s
-  pub lent : now (args .1 .1 .1 .1 .0) ≡ line
+  pub handed : stateAt (args .0) (now (args .1 .0)) (now (args .1 .1 .0)) (now (args .1 .1 .1 .0)) (now (args .1 .1 .1 .1 .0)) ≡ s
+  pub lent : now (args .1 .1 .1 .1 .1 .0) ≡ line
   pub gave : record {
     refusal = result .refusal;
-    state = stateAt (result .book) (now (args .1 .0)) (now (exit .1 .1 .0)) (now (exit .1 .1 .1 .0));
+    state = stateAt (result .book) (now (args .1 .0)) (now (exit .1 .1 .0)) (now (exit .1 .1 .1 .0)) (now (exit .1 .1 .1 .1 .0));
   } ≡ a
 
 -- `feed_with` was handed this state, its tables lent, and this line
 pub record FeedWithCall (s : State) (line : List ℕ) (a : Answer) : Type 0 where
-  pub lifetimes : Lfts 5
+  pub lifetimes : Lfts 6
   pub args : Dens lifetimes with-kinds.ps
   pub result : Fed
-  pub exit : AtExit (endedOf 5 with-kinds.ps with-kinds.r) lifetimes
+  pub exit : AtExit (endedOf 6 with-kinds.ps with-kinds.r) lifetimes
   pub learnt : with-reads.Learnt lifetimes args result exit
-  pub handed : stateAt (args .0) (now (args .1 .1 .0)) (now (args .1 .1 .1 .0)) (now (args .1 .1 .1 .1 .0)) ≡ s
-  pub lent : now (args .1 .1 .1 .1 .1 .0) ≡ line
+  pub handed : stateAt (args .0) (now (args .1 .1 .0)) (now (args .1 .1 .1 .0)) (now (args .1 .1 .1 .1 .0)) (now (args .1 .1 .1 .1 .1 .0)) ≡ s
+  pub lent : now (args .1 .1 .1 .1 .1 .1 .0) ≡ line
   pub gave : record {
     refusal = result .refusal;
-    state = stateAt (result .book) (now (args .1 .1 .0)) (now (exit .1 .1 .1 .0)) (now (exit .1 .1 .1 .1 .0));
+    state = stateAt (result .book) (now (args .1 .1 .0)) (now (exit .1 .1 .1 .0)) (now (exit .1 .1 .1 .1 .0)) (now (exit .1 .1 .1 .1 .1 .0));
   } ≡ a
 
 -- either

@@ -2,11 +2,11 @@
 ghost use mathlib.Core.Bool.{true, false};
 ghost use mathlib.Core.Path.{_≡_};
 ghost use Rattle.exact.specs.Text.{text};
-ghost use Rattle.line_forms.specs.Bytes.{standsAt};
-ghost use Rattle.line_forms.specs.Contents.{originForm};
+ghost use Rattle.line_forms.specs.Bytes.{standsAt, after};
+ghost use Rattle.line_forms.specs.Contents.{originForm, markText};
 ghost use Rattle.line_forms.specs.Parsing.{valuesAt, afterForm};
 ghost use Rattle.line_forms.specs.Readings.{classAt, kindAt, headerHeld, loanHeld, policyHeld, derivativeHeld, assetHeld, plainHeld, signedHeld, indexHeld};
-ghost use Rattle.line_forms.specs.Readings.{contentOf};
+ghost use Rattle.line_forms.specs.Readings.{markHeld, contentOf};
 use fixed_point::Signed;
 use line_forms::Amount;
 use line_forms::Asset;
@@ -18,6 +18,7 @@ use line_forms::IndexValue;
 use line_forms::Item;
 use line_forms::Kind;
 use line_forms::Loan;
+use line_forms::MarkLine;
 use line_forms::Policy;
 
 mod areas;
@@ -231,6 +232,29 @@ fn index(line: &[u8]) -> Content
     Content::NoForm
 }
 
+// The position after the text that a mark begins with, or a return to one.
+fn mark_begun(line: &[u8], back: bool) -> usize
+    ensures { λ r. ⌜ r ≡ after (now (line .entry)) 0 (markText back) ⌝ }
+{
+    if back {
+        return line_fields::skip(line, 0, b"(back ");
+    }
+    line_fields::skip(line, 0, b"(mark ")
+}
+
+fn mark(line: &[u8], back: bool) -> Content
+    ensures { λ r. ⌜ r ≡ markHeld back (now (line .entry)) ⌝ }
+{
+    let name = line_fields::name_at(line, mark_begun(line, back));
+    if line_fields::skip(line, name.next, b")") == line.len() {
+        return Content::Mark(MarkLine {
+            back,
+            name: name.value,
+        });
+    }
+    Content::NoForm
+}
+
 // What a line that does not begin as a loan holds, by the name after its opening bracket.
 fn other(line: &[u8]) -> Content
     requires { ⌜ standsAt (now line) 0 (text "(loan (bal ") ≡ false ⌝ }
@@ -239,7 +263,7 @@ fn other(line: &[u8]) -> Content
     let name = line_fields::word_at(
         line,
         1,
-        b"loan|policy|deriv|asset|book|claims|lossc|stated|equity|aoci|b|c|index",
+        b"loan|policy|deriv|asset|book|claims|lossc|stated|equity|aoci|b|c|index|mark|back",
     );
     let place = name.value;
     match place {
@@ -256,6 +280,8 @@ fn other(line: &[u8]) -> Content
         10 => plain(line, Item::B, b"(b "),
         11 => plain(line, Item::C, b"(c "),
         12 => index(line),
+        13 => mark(line, false),
+        14 => mark(line, true),
         _ => Content::NoForm,
     }
 }

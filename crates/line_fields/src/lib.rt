@@ -1,4 +1,4 @@
-// Readers of a field: a text, a run of bytes, a number.
+// Readers of a field: a text, a run of bytes, a number, a word, a name.
 ghost use mathlib.Core.Path.{_≡_};
 ghost use Prim.Native.Nat.{_-_, _≤_, _<_};
 ghost use mathlib.Core.Bool.{true, _&&_};
@@ -6,14 +6,18 @@ ghost use lib.Dec.{eqb, ltb};
 ghost use lib.ListN.{length, drop, getD};
 ghost use Rattle.line_forms.specs.Bytes.{same as sameBytes, standsAt, after, past, runOf, within, allWithin};
 ghost use Rattle.line_forms.specs.Forms.{choicesOf};
-ghost use Rattle.line_forms.specs.Numerals.{mostDigits, valueFrom};
+ghost use Rattle.line_forms.specs.Numerals.{valueFrom};
 ghost use Rattle.line_forms.specs.Parsing.{digitsAt, numberAt, afterNumber, minusAt, signedAt, afterSigned, negativeAt, afterNegative, placeOf};
-ghost use Rattle.line_forms.specs.Parsing.{afterWord, lettersAt, scoreAt, afterScore};
+ghost use Rattle.line_forms.specs.Parsing.{afterWord, lettersAt, scoreAt, afterScore, nameAt, afterName};
+ghost use Rattle.line_fields.specs.Numbers.{numberFrom, Written};
 use fixed_point::Signed;
 use loan_charge::Score;
 
 // The most digits of a D.
 const MOST_DIGITS: usize = 14;
+
+// The most letters of a name.
+const MOST_LETTERS: usize = 12;
 
 // A field's value and the position after it; past the end of the line where the field does not stand there.
 pub struct Found {
@@ -32,7 +36,7 @@ pub struct FoundSigned {
 }
 
 fn wide(b: u8) -> u64
-    ensures { λ r. ⌜ r ≡ b ⌝ }
+    ensures { λ r. ⌜ (r ≡ b) × (r ≤ 255) ⌝ }
 {
     b as u64
 }
@@ -199,40 +203,42 @@ fn six_digits(line: &[u8], at: usize) -> &[u8]
     run(line, at, b'0', b'9')
 }
 
-fn digit_at(digits: &[u8], i: usize) -> u64
-    requires { ⌜ (allWithin 48 57 (now digits) ≡ true) × (i < length (now digits)) ⌝ }
-    ensures { λ r. ⌜ (r ≡ getD (now (digits .entry)) i 0 - 48) × (r ≤ 9) ⌝ }
+// How far the byte at a place lies above `before`.
+fn worth_at(part: &[u8], i: usize, before: u8) -> u64
+    requires { ⌜ (i < length (now part)) × (before ≤ getD (now part) i 0) ⌝ }
+    ensures { λ r. ⌜ (r ≡ getD (now (part .entry)) i 0 - before) × (r ≤ 255) ⌝ }
 {
-    wide(digits[i] - b'0')
+    wide(part[i] - before)
 }
 
-fn value_of(digits: &[u8]) -> u64
-    requires { ⌜ (allWithin 48 57 (now digits) ≡ true) × (length (now digits) ≤ mostDigits) ⌝ }
-    ensures { λ r. ⌜ r ≡ valueFrom 0 (now (digits .entry)) ⌝ }
+// The number that bytes write in a base, each worth how far it lies above `before`, at most the base.
+fn number_of(part: &[u8], base: u64, before: u8) -> u64
+    requires { ⌜ Written base before (now part) ⌝ }
+    ensures { λ r. ⌜ r ≡ numberFrom base before 0 (now (part .entry)) ⌝ }
 {
     let mut value: u64 = 0;
     let mut i = 0;
-    while i < digits.len() {
-        value = value * 10 + digit_at(digits, i);
+    while i < part.len() {
+        value = value * base + worth_at(part, i, before);
         i += 1;
     }
     value
 }
 
-// The same of one to three digits, with no loop.
+// The value of one to three digits, with no loop.
 fn few_value(digits: &[u8]) -> u64
     requires { ⌜ (allWithin 48 57 (now digits) ≡ true) × (0 < length (now digits)) × (length (now digits) ≤ 3) ⌝ }
     ensures { λ r. ⌜ r ≡ valueFrom 0 (now (digits .entry)) ⌝ }
 {
-    let one = digit_at(digits, 0);
+    let one = worth_at(digits, 0, b'0');
     if digits.len() == 1 {
         return one;
     }
-    let two = one * 10 + digit_at(digits, 1);
+    let two = one * 10 + worth_at(digits, 1, b'0');
     if digits.len() == 2 {
         return two;
     }
-    two * 10 + digit_at(digits, 2)
+    two * 10 + worth_at(digits, 2, b'0')
 }
 
 // Whether more than one digit stands and the first is a 0. One digit is told by its count alone, which is the soonest way to read it.
@@ -264,7 +270,7 @@ fn number(line: &[u8], at: usize, digits: &[u8]) -> Found
         };
     }
     Found {
-        value: value_of(digits),
+        value: number_of(digits, 10, b'0'),
         next: at + n,
     }
 }
@@ -437,4 +443,19 @@ pub fn score_at(line: &[u8], at: usize) -> FoundScore
         },
         next: line.len() + 1,
     }
+}
+
+// The name at a position, as its number: a is worth 1.
+pub fn name_at(line: &[u8], at: usize) -> Found
+    ensures { λ r. ⌜ (r .value ≡ nameAt (now (line .entry)) at) × (r .next ≡ afterName (now (line .entry)) at) ⌝ }
+{
+    let letters = run(line, at, b'a', b'z');
+    let n = letters.len();
+    if (1 <= n) & (n <= MOST_LETTERS) {
+        return Found {
+            value: number_of(letters, 26, 96),
+            next: at + n,
+        };
+    }
+    missing(line)
 }

@@ -1,5 +1,5 @@
 -- Laws of byte strings: equality, runs and the position after a text.
-use Prim.Native.Nat.{ℕ, suc, _+_, _-_, _≤_, _<_, zero-le, suc-le-suc}
+use Prim.Native.Nat.{ℕ, zero, suc, _+_, _-_, _≤_, _<_, zero-le, suc-le-suc}
 use native.Mathlib.Nat.{sub-self}
 use native.Mathlib.Numerals.{add-one}
 use native.Mathlib.Omega.{arith}
@@ -139,6 +139,19 @@ pub within-bounds : (low high n : ℕ) → within low high n ≡ true → (low �
 within-bounds low high n h =
     let k : (leb low n ≡ true) × (leb n high ≡ true) = and-both (leb low n) (leb n high) h in
     (leb-true low n (k .0), leb-true n high (k .1))
+
+-- bytes in range, one by one
+pub all-first : (low high b : ℕ) (t : List ℕ) → allWithin low high (b ∷ t) ≡ true → (low ≤ b) × (b ≤ high) × (allWithin low high t ≡ true)
+unfolding allWithin
+all-first low high b t h =
+    let e = and-both (within low high b) (allWithin low high t) h in
+    let k = within-bounds low high b (e .0) in
+    (k .0, k .1, e .1)
+
+pub all-at : (low high : ℕ) (t : List ℕ) (i : ℕ) → allWithin low high t ≡ true → i < length t → (low ≤ getD t i 0) × (getD t i 0 ≤ high)
+all-at low high [] i h l = absurd (omega arith)
+all-at low high (b ∷ t) zero h l = let k = all-first low high b t h in (k .0, k .1)
+all-at low high (b ∷ t) (suc i) h l = all-at low high t i (all-first low high b t h .2) (omega arith)
 
 pub run-length : (low high : ℕ) (s : List ℕ) → length (runOf low high s) ≤ length s
 unfolding runOf

@@ -15,10 +15,10 @@ use Rattle.line_forms.specs.Forms.{Form, Values, AllWritable, formText}
 use Rattle.line_forms.specs.Parsing.{valuesAt, hasForm, lettersAt, placeOf}
 use Rattle.line_forms.specs.Contents.{headerForm, headerValues, loanForm, loanValues, policyForm, policyValues, classPlace, derivativeForm}
 use Rattle.line_forms.specs.Contents.{derivativeValues, kindPlace, assetForm, assetValues, plainForm, signedForm, amountForm, amountValues}
-use Rattle.line_forms.specs.Contents.{indexForm, indexValues, bytesOf, SignFits, Writable}
+use Rattle.line_forms.specs.Contents.{indexForm, indexValues, markForm, bytesOf, SignFits, Writable}
 use Rattle.line_forms.specs.Readings.{headerWith, loanWith, policyWith, classAt, derivativeWith, kindAt, assetWith, unsigned, headerHeld}
 use Rattle.line_forms.specs.Readings.{loanHeld, policyHeld, derivativeHeld, assetHeld, plainHeld, signedHeld, names, amountHeld, heldAs}
-use Rattle.line_forms.specs.Readings.{indexWith, indexHeld, contentOf}
+use Rattle.line_forms.specs.Readings.{indexWith, indexHeld, markWith, markHeld, contentOf}
 use Rattle.fixed_point.specs.declared.Signed.{Signed}
 use Rattle.line_forms.specs.declared.Header.{Header}
 use Rattle.line_forms.specs.declared.Loan.{Loan}
@@ -34,7 +34,7 @@ use Rattle.line_forms.specs.declared.Item.the-variants.{Claims, Lossc, S
 use Rattle.line_forms.specs.declared.IndexValue.{IndexValue}
 use Rattle.line_forms.specs.declared.Content.{Content}
 use Rattle.line_forms.specs.declared.Content.the-variants.{Header as header, Loan as loan, Policy as policy, Derivative as derivative}
-use Rattle.line_forms.specs.declared.Content.the-variants.{Asset as asset, Amount as amount, Index as index, NoForm}
+use Rattle.line_forms.specs.declared.Content.the-variants.{Asset as asset, Amount as amount, Index as index, Mark as mark, NoForm}
 use Rattle.line_forms.proofs.Bytes.{run-exact, Stands, text-cases, stands-fits, after-true}
 use Rattle.line_forms.proofs.FieldLaws.{among, spelled}
 use Rattle.line_forms.proofs.FormLaws.{stops, proper, form-of, form-has, form-stops}
@@ -92,6 +92,10 @@ proper-index : proper indexForm ≡ true
 unfolding stops spelled among same allWithin
 proper-index = refl
 
+proper-mark : (back : Bool) → proper (markForm back) ≡ true
+unfolding stops
+proper-mark back = refl
+
 proper-plain : (t : List ℕ) → proper (plainForm t) ≡ true
 unfolding stops
 proper-plain t = refl
@@ -142,6 +146,11 @@ unfolding indexHeld bytesOf
 index-right s =
     held-right indexForm s (λ v. index (indexWith v)) NoForm proper-index (λ v k. inr (k .1, k .0)) (inl refl)
 
+mark-right : (back : Bool) (s : List ℕ) → Right s (markHeld back s)
+unfolding markHeld bytesOf
+mark-right back s =
+    held-right (markForm back) s (λ v. mark (markWith back v)) NoForm (proper-mark back) (λ v k. inr (k .1, k .0)) (inl refl)
+
 plain-right :
     (i : Item) (t s : List ℕ) →
     ((n : ℕ) → (s ≡ formText (plainForm t) (n, tt)) × AllWritable (plainForm t) (n, tt) → Right s (amount (record { item = i; amount = unsigned n }))) →
@@ -185,7 +194,9 @@ held-as-right name s =
     (either-right s (eqb name 2) _ _ (derivative-right s)
     (either-right s (eqb name 3) _ _ (asset-right s)
     (either-right s (eqb name 4) _ _ (header-right s)
-    (either-right s (eqb name 12) _ _ (index-right s) (amount-right name s))))))
+    (either-right s (eqb name 12) _ _ (index-right s)
+    (either-right s (eqb name 13) _ _ (mark-right false s)
+    (either-right s (eqb name 14) _ _ (mark-right true s) (amount-right name s))))))))
 
 pub content-right : (s : List ℕ) → Right s (contentOf s)
 unfolding contentOf
@@ -275,6 +286,19 @@ index-written s i w e =
     named s (text "index") _ 12 (index i) refl refl e
     (held indexForm s (λ v. index (indexWith v)) NoForm (indexValues i) proper-index e w)
 
+mark-held :
+    (s : List ℕ) (back : Bool) (n : ℕ) → AllWritable (markForm back) (n, tt) → s ≡ formText (markForm back) (n, tt) →
+    markHeld back s ≡ mark (record { back = back; name = n })
+unfolding markHeld
+mark-held s back n w e = held (markForm back) s (λ v. mark (markWith back v)) NoForm (n, tt) (proper-mark back) e w
+
+mark-written :
+    (s : List ℕ) (back : Bool) (n : ℕ) → AllWritable (markForm back) (n, tt) → s ≡ formText (markForm back) (n, tt) →
+    contentOf s ≡ mark (record { back = back; name = n })
+unfolding placeOf same allWithin
+mark-written s false n w e = named s (text "mark") _ 13 _ refl refl e (mark-held s false n w e)
+mark-written s true n w e = named s (text "back") _ 14 _ refl refl e (mark-held s true n w e)
+
 plain-written :
     (i : Item) (t s : List ℕ) (n : ℕ) → n < limit → s ≡ formText (plainForm t) (n, tt) →
     plainHeld i t s ≡ amount (record { item = i; amount = unsigned n })
@@ -322,4 +346,5 @@ content-written s (derivative d) w e = derivative-written s d w e
 content-written s (asset a) w e = asset-written s a w e
 content-written s (amount a) w e = amount-written s (a .item) (a .amount) (w .0) (w .1) e
 content-written s (index i) w e = index-written s i w e
+content-written s (mark m) w e = mark-written s (m .back) (m .name) w e
 content-written s NoForm w e = absurd w

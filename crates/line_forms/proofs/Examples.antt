@@ -7,12 +7,14 @@ use mathlib.Core.Path.{_≡_, refl}
 use native.Mathlib.Omega.{arith}
 use Rattle.exact.specs.Decimal.{valueFrom}
 use Rattle.line_forms.specs.Bytes.{allWithin, runOf, same, after}
+use Rattle.line_forms.specs.Names.{nameFrom}
 use Rattle.line_forms.specs.Numerals.{isNumeral}
 use Rattle.line_forms.specs.Parsing.{numberAt, afterNumber, afterNegative, signedAt, afterSigned, placeOf, afterWord, scoreAt, afterScore}
+use Rattle.line_forms.specs.Parsing.{nameAt, afterName}
 use Rattle.line_forms.specs.Contents.{inRange, headerInRange, scoreInRange, loanInRange, policyInRange, moneyInRange}
 use Rattle.line_forms.specs.Contents.{derivativeInRange, assetInRange, amountInRange, monthInRange, indexInRange}
 use Rattle.line_forms.specs.Readings.{contentOf, headerHeld, loanHeld, policyHeld, derivativeHeld, assetHeld, indexHeld}
-use Rattle.line_forms.specs.Readings.{plainHeld, signedHeld, amountHeld}
+use Rattle.line_forms.specs.Readings.{markHeld, plainHeld, signedHeld, amountHeld}
 use Rattle.line_forms.specs.Claims.{ShowsInRange}
 use Rattle.line_forms.specs.Examples.{LineTexts}
 use Rattle.line_forms.specs.declared.Content.{Content}
@@ -28,8 +30,8 @@ shows {s} {c} e r = go (content-right s)
     go (inr w) = record { shows = record { writable = rw e at (w .0); bytes = rw e at (w .1) }; in-range = r }
 
 pub line-texts : LineTexts
-unfolding contentOf headerHeld loanHeld policyHeld derivativeHeld assetHeld indexHeld plainHeld signedHeld amountHeld
-    numberAt afterNumber afterNegative signedAt afterSigned placeOf afterWord scoreAt afterScore
+unfolding contentOf headerHeld loanHeld policyHeld derivativeHeld assetHeld indexHeld markHeld plainHeld signedHeld amountHeld
+    numberAt afterNumber afterNegative signedAt afterSigned placeOf afterWord scoreAt afterScore nameAt afterName nameFrom
     allWithin runOf same after isNumeral valueFrom inRange
     headerInRange scoreInRange loanInRange policyInRange moneyInRange derivativeInRange assetInRange amountInRange monthInRange indexInRange
 line-texts = record {
@@ -67,4 +69,7 @@ line-texts = record {
   victoria = shows refl refl;
   winnipeg = shows refl refl;
   composite = shows refl refl;
+  mark-first = shows refl refl;
+  mark-region = shows refl refl;
+  back-last = shows refl refl;
 }

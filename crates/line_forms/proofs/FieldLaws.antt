@@ -11,9 +11,10 @@ use lib.ListN.{length, drop, getD}
 use lib.Seq.{drop-drop}
 use Rattle.exact.specs.Choice.{pick}
 use Rattle.line_forms.specs.Bytes.{past, allWithin, same}
-use Rattle.line_forms.specs.Forms.{Field, number, signed, word, score, Value, FieldWritable, fieldText}
+use Rattle.line_forms.specs.Forms.{Field, number, signed, word, score, name, Value, FieldWritable, fieldText}
 use Rattle.line_forms.specs.Parsing.{lettersAt, placeOf, afterWord, fieldAt, afterField}
 use Rattle.line_forms.proofs.Bytes.{and-both, or-false, same-eq, same-refl, run-split, run-exact, run-end, rest-after}
+use Rattle.line_forms.proofs.NameLaws.{name-written, name-read, name-past}
 use Rattle.line_forms.proofs.NumberLaws.{Ends, number-written, number-read, number-past, signed-written, signed-read, signed-past}
 use Rattle.line_forms.proofs.ScoreLaws.{score-written, score-read, score-past}
 
@@ -135,6 +136,7 @@ properField number = true
 properField signed = true
 properField (word choices) = spelled choices
 properField score = true
+properField name = true
 
 pub field-written :
     (k : Field) (s : List ℕ) (at : ℕ) (v : Value k) (r : List ℕ) → at ≤ length s → drop at s ≡ fieldText k v ++ r →
@@ -144,6 +146,7 @@ field-written number s at v r l e w p q = number-written s at v r e w q
 field-written signed s at v r l e w p q = signed-written s at v r l e w q
 field-written (word choices) s at v r l e w p q = word-written choices s at v r e p w q
 field-written score s at v r l e w p q = score-written s at v r l e w q
+field-written name s at v r l e w p q = name-written s at v r e w q
 
 pub record FieldRead (k : Field) (s : List ℕ) (at : ℕ) : Type 0 where
   pub fits : afterField k s at ≤ length s
@@ -155,6 +158,7 @@ field-read number s at h = ⊎-elim (λ k. inl (record { fits = k .fits; text = 
 field-read signed s at h = ⊎-elim (λ k. inl (record { fits = k .fits; text = k .text; small = k .small })) (λ k. inr k) (signed-read s at h)
 field-read (word choices) s at h = ⊎-elim (λ k. inl (record { fits = k .fits; text = k .text; small = k .small })) (λ k. inr k) (word-read choices s at h)
 field-read score s at h = ⊎-elim (λ k. inl (record { fits = k .fits; text = k .text; small = k .small })) (λ k. inr k) (score-read s at h)
+field-read name s at h = ⊎-elim (λ k. inl (record { fits = k .fits; text = k .text; small = k .small })) (λ k. inr k) (name-read s at h)
 
 -- past the end no field stands
 pub field-past : (k : Field) (s : List ℕ) (at : ℕ) → properField k ≡ true → length s < at → afterField k s at ≡ past s
@@ -162,3 +166,4 @@ field-past number s at p h = number-past s at h
 field-past signed s at p h = signed-past s at h
 field-past (word choices) s at p h = word-past choices s at p h
 field-past score s at p h = score-past s at h
+field-past name s at p h = name-past s at h

@@ -16,7 +16,7 @@ use Rattle.line_forms.specs.Claims.{AfterHeader, headerRefusal, headerCo
 use Rattle.line_forms.specs.declared.Header.{Header}
 use Rattle.line_forms.specs.declared.Content.{Content}
 use Rattle.line_forms.specs.declared.Content.the-variants.{Header as header, Loan as loan, Policy as policy, Derivative as derivative}
-use Rattle.line_forms.specs.declared.Content.the-variants.{Asset as asset, Amount as amount, Index as index, NoForm}
+use Rattle.line_forms.specs.declared.Content.the-variants.{Asset as asset, Amount as amount, Index as index, Mark as mark, NoForm}
 use Rattle.line_forms.specs.declared.HeaderLine.{HeaderLine}
 use Rattle.line_forms.specs.declared.HeaderLine.the-variants.{Header as HeaderRead, Refusal as HeaderRefusal}
 use Rattle.line_forms.proofs.Bytes.{and-both, within-bounds}
@@ -51,6 +51,7 @@ answer-for s (derivative x) w e = other (derivative x) tt w e
 answer-for s (asset x) w e = other (asset x) tt w e
 answer-for s (amount x) w e = other (amount x) tt w e
 answer-for s (index x) w e = other (index x) tt w e
+answer-for s (mark x) w e = other (mark x) tt w e
 answer-for s NoForm w e = absurd w
 
 -- the answer obeys a rule
@@ -68,6 +69,7 @@ other-form (derivative x) a = refl
 other-form (asset x) a = refl
 other-form (amount x) a = refl
 other-form (index x) a = refl
+other-form (mark x) a = refl
 other-form NoForm a = absurd a
 
 header-range :
@@ -154,6 +156,7 @@ headerIn g (derivative x) = g
 headerIn g (asset x) = g
 headerIn g (amount x) = g
 headerIn g (index x) = g
+headerIn g (mark x) = g
 headerIn g NoForm = g
 
 rule0 :

@@ -9,6 +9,7 @@ pub mod FormLaws
 pub mod HeaderCounts
 pub mod HeaderLaws
 pub mod LineLaws
+pub mod NameLaws
 pub mod NumberLaws
 pub mod Numerals
 pub mod Positions

@@ -13,10 +13,10 @@ use Rattle.line_forms.specs.Claims.{AfterHeader, lineWith, lineRefusal, 
 use Rattle.line_forms.specs.declared.Header.{Header}
 use Rattle.line_forms.specs.declared.Content.{Content}
 use Rattle.line_forms.specs.declared.Content.the-variants.{Header as header, Loan as loan, Policy as policy, Derivative as derivative}
-use Rattle.line_forms.specs.declared.Content.the-variants.{Asset as asset, Amount as amount, Index as index, NoForm}
+use Rattle.line_forms.specs.declared.Content.the-variants.{Asset as asset, Amount as amount, Index as index, Mark as mark, NoForm}
 use Rattle.line_forms.specs.declared.Line.{Line}
 use Rattle.line_forms.specs.declared.Line.the-variants.{Loan as LoanLine, Policy as PolicyLine, Derivative as DerivativeLine, Asset as AssetLine}
-use Rattle.line_forms.specs.declared.Line.the-variants.{Amount as AmountLine, Index as IndexLine, Refusal}
+use Rattle.line_forms.specs.declared.Line.the-variants.{Amount as AmountLine, Index as IndexLine, Mark as MarkRead, Refusal}
 use Rattle.line_forms.proofs.AnswerLaws.{answer-long, answer-none, answer-held, answer-cases}
 
 -- The rules of line reading, one for each answer.
@@ -41,6 +41,7 @@ answer-for s (derivative x) w e = judged s (derivative x) tt w e (inRange (deriv
 answer-for s (asset x) w e = judged s (asset x) tt w e (inRange (asset x)) refl
 answer-for s (amount x) w e = judged s (amount x) tt w e (inRange (amount x)) refl
 answer-for s (index x) w e = judged s (index x) tt w e (inRange (index x)) refl
+answer-for s (mark x) w e = judged s (mark x) tt w e true refl
 answer-for s NoForm w e = absurd w
 
 -- the answer obeys a rule
@@ -58,6 +59,7 @@ line-range (derivative x) a = refl
 line-range (asset x) a = refl
 line-range (amount x) a = refl
 line-range (index x) a = refl
+line-range (mark x) a = refl
 line-range NoForm a = absurd a
 
 read-as : (s : List ℕ) (c : Content) → Writable c → s ≡ bytesOf c → lineOf s ≡ lineFor c
@@ -80,6 +82,7 @@ accepted-number (derivative x) a = refl
 accepted-number (asset x) a = refl
 accepted-number (amount x) a = refl
 accepted-number (index x) a = refl
+accepted-number (mark x) a = refl
 accepted-number NoForm a = absurd a
 
 accepted-data : (c : Content) → AfterHeader c → lineContent (lineWith c) ≡ c
@@ -90,6 +93,7 @@ accepted-data (derivative x) a = refl
 accepted-data (asset x) a = refl
 accepted-data (amount x) a = refl
 accepted-data (index x) a = refl
+accepted-data (mark x) a = refl
 accepted-data NoForm a = absurd a
 
 -- an answer's number tells the rule
@@ -173,6 +177,7 @@ refused-line (DerivativeLine d) n e z = absurd (z (sym e))
 refused-line (AssetLine a) n e z = absurd (z (sym e))
 refused-line (AmountLine a) n e z = absurd (z (sym e))
 refused-line (IndexLine i) n e z = absurd (z (sym e))
+refused-line (MarkRead m) n e z = absurd (z (sym e))
 refused-line (Refusal m) n e z = ap Refusal e
 
 pub line-numbers : (s : List ℕ) (n : ℕ) → lineOf s ≡ Refusal n → (n ≡ 1) ⊎ (n ≡ 2) ⊎ (n ≡ 7) ⊎ (n ≡ 3)

@@ -1,7 +1,6 @@
 -- Laws of D and S: a number's digits and the number that digits give.
 use Prim.Native.Nat.{ℕ, zero, suc, _+_, _-_, _*_, _/_, _%_, _^_, _≤_, _<_}
 use native.Mathlib.Nat.{pow-suc, pow-le-pow-right, zero-add, lt-of-lt-of-le, mul-le-mul-right}
-use native.Mathlib.Numerals.{add-one}
 use native.Mathlib.Omega.{arith}
 use mathlib.Core.Path.{_≡_, refl, sym, _∙_}
 use mathlib.Core.Bool.{Bool, true, false, _&&_, _||_, not}
@@ -9,24 +8,12 @@ use mathlib.Core.List.{List, [], _∷_, _++_, append-nil, append-assoc}
 use borrow.Author.Tests.{eq-eqb, ne-eqb, eqb-false, ltb-false, leb-true, ltb-true, le-leb, lt-ltb, le-ltb, not-true}
 use lib.Dec.{eqb, leb, ltb, lit<}
 use native.Mathlib.Decide.{decLt}
-use lib.ListN.{length, drop, getD, List·getD-append}
-use lib.Seq.{drop-cons}
+use lib.ListN.{length, getD, List·getD-append}
 use Rattle.line_forms.specs.Bytes.{within, allWithin}
 use Rattle.exact.specs.Decimal.{digit, leading, digits}
 use Rattle.exact.proofs.Decimal.{digits-one, digits-more, digits-some, digits-nonzero, digits-length}
 use Rattle.line_forms.specs.Numerals.{isNumeral, valueFrom, decimal, limit}
-use Rattle.line_forms.proofs.Bytes.{false-and, and-both, or-false, within-bounds, all-append}
-
--- every byte of digits is one
-pub all-at : (t : List ℕ) (i : ℕ) → allWithin 48 57 t ≡ true → i < length t → (48 ≤ getD t i 0) × (getD t i 0 ≤ 57)
-unfolding allWithin
-all-at [] i h l = absurd (omega arith)
-all-at (b ∷ t) zero h l = within-bounds 48 57 b (and-both (within 48 57 b) (allWithin 48 57 t) h .0)
-all-at (b ∷ t) (suc i) h l = all-at t i (and-both (within 48 57 b) (allWithin 48 57 t) h .1) (omega arith)
-
-pub value-step : (a : ℕ) (t : List ℕ) (i : ℕ) → i < length t → valueFrom a (drop i t) ≡ valueFrom (a * 10 + (getD t i 0 - 48)) (drop (i + 1) t)
-unfolding valueFrom
-value-step a t i h = rw (add-one, drop-cons t i 0 h)
+use Rattle.line_forms.proofs.Bytes.{false-and, and-both, or-false, within-bounds, all-append, all-at}
 
 -- the value of one, two or three digits
 pub value-one : (t : List ℕ) → length t ≡ 1 → getD t 0 0 - 48 ≡ valueFrom 0 t
@@ -49,13 +36,6 @@ value-three (a ∷ []) h = absurd (omega arith)
 value-three (a ∷ b ∷ []) h = absurd (omega arith)
 value-three (a ∷ b ∷ d ∷ []) h = omega arith
 value-three (a ∷ b ∷ d ∷ e ∷ t) h = absurd (omega arith)
-
--- a number of i digits, i at most 14, and one digit more
-pub ten-more : (v d i : ℕ) → v < 10 ^ i → d ≤ 9 → v * 10 + d < 10 ^ (i + 1)
-ten-more v d i h k = rw (add-one, pow-suc 10 i) (omega arith)
-
-pub below-limit : (v i : ℕ) → v < 10 ^ i → i ≤ 14 → v < 100000000000000
-below-limit v i h k = omega (arith, pow-le-pow-right {n = 10} (lit< tt) k)
 
 -- what the test says
 pub record IsNumeral (t : List ℕ) : Type 0 where
@@ -191,4 +171,4 @@ numeral-decimal (d ∷ x ∷ t) h =
 
 -- a D begins with a digit
 pub decimal-first : (n : ℕ) (r : List ℕ) → 48 ≤ getD (decimal n ++ r) 0 0
-decimal-first n r = rw (List·getD-append (decimal n) r 0 0 (digits-some n)) (all-at (decimal n) 0 (decimal-digits n) (digits-some n) .0)
+decimal-first n r = rw (List·getD-append (decimal n) r 0 0 (digits-some n)) (all-at 48 57 (decimal n) 0 (decimal-digits n) (digits-some n) .0)

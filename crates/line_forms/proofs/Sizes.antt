@@ -10,16 +10,18 @@ use Rattle.loan_charge.specs.declared.Score.{Score}
 use Rattle.loan_charge.specs.declared.Score.the-variants.{Scored, Unscored}
 use Rattle.exact.specs.Choice.{pick}
 use Rattle.line_forms.specs.Numerals.{decimal, signedText}
-use Rattle.line_forms.specs.Forms.{Field, number, signed, word, score, Form, field, end, Value, Values, FieldWritable, AllWritable, fieldText}
-use Rattle.line_forms.specs.Forms.{formText, scoreText, ScoreWritable}
+use Rattle.line_forms.specs.Forms.{Field, number, signed, word, score, name, Form, field, end, Value, Values, FieldWritable, AllWritable}
+use Rattle.line_forms.specs.Forms.{fieldText, formText, scoreText, ScoreWritable}
 use Rattle.line_forms.specs.Contents.{headerForm, headerValues, loanForm, loanValues, policyForm, policyValues, derivativeForm}
-use Rattle.line_forms.specs.Contents.{derivativeValues, assetForm, assetValues, amountForm, amountValues, indexForm, indexValues, bytesOf, Writable}
+use Rattle.line_forms.specs.Contents.{derivativeValues, assetForm, assetValues, amountForm, amountValues, indexForm, indexValues, markForm}
+use Rattle.line_forms.specs.Contents.{markValues, bytesOf, Writable}
 use Rattle.fixed_point.specs.declared.Signed.{Signed}
 use Rattle.line_forms.specs.declared.Item.{Item}
 use Rattle.line_forms.specs.declared.Item.the-variants.{Claims, Lossc, Stated, Equity, Aoci, B, C}
 use Rattle.line_forms.specs.declared.Content.{Content}
 use Rattle.line_forms.specs.declared.Content.the-variants.{Header as header, Loan as loan, Policy as policy, Derivative as derivative}
-use Rattle.line_forms.specs.declared.Content.the-variants.{Asset as asset, Amount as amount, Index as index, NoForm}
+use Rattle.line_forms.specs.declared.Content.the-variants.{Asset as asset, Amount as amount, Index as index, Mark as mark, NoForm}
+use Rattle.line_forms.proofs.NameLaws.{letters-short}
 use Rattle.line_forms.proofs.Numerals.{decimal-short}
 
 abbrev longest : List (List ℕ) → ℕ
@@ -37,6 +39,7 @@ fieldSize number = 14
 fieldSize signed = 15
 fieldSize (word choices) = longest choices
 fieldSize score = 29
+fieldSize name = 12
 
 abbrev formSize : Form → ℕ
 formSize (field t k f) = length t + (fieldSize k + formSize f)
@@ -60,6 +63,7 @@ field-size number v w = decimal-short v w
 field-size signed v w = signed-size v w
 field-size (word choices) v w = word-size choices v
 field-size score v w = score-size v w
+field-size name v w = letters-short v
 
 form-size : (f : Form) (v : Values f) → AllWritable f v → length (formText f v) ≤ formSize f
 form-size (field t k f) v w =
@@ -81,6 +85,10 @@ amount-bound Aoci = lit≤ tt
 amount-bound B = lit≤ tt
 amount-bound C = lit≤ tt
 
+mark-bound : (back : Bool) → formSize (markForm back) ≤ 196
+mark-bound false = lit≤ tt
+mark-bound true = lit≤ tt
+
 pub content-size : (c : Content) → Writable c → length (bytesOf c) ≤ 196
 unfolding bytesOf
 content-size (header h) w = le-trans (form-size headerForm (headerValues h) w) (lit≤ tt)
@@ -90,4 +98,5 @@ content-size (derivative d) w = le-trans (form-size derivativeForm (derivativeVa
 content-size (asset a) w = le-trans (form-size assetForm (assetValues a) w) (lit≤ tt)
 content-size (amount a) w = le-trans (form-size (amountForm (a .item)) (amountValues (a .item) (a .amount)) (w .0)) (amount-bound (a .item))
 content-size (index i) w = le-trans (form-size indexForm (indexValues i) w) (lit≤ tt)
+content-size (mark m) w = le-trans (form-size (markForm (m .back)) (markValues m) w) (mark-bound (m .back))
 content-size NoForm w = absurd w

@@ -5,15 +5,17 @@ use mathlib.Core.List.{List}
 use mathlib.Core.Logic.{_↔_, _⊎_}
 use mathlib.Core.Path.{_≡_}
 use lib.ListN.{length}
+use Rattle.line_forms.specs.Bytes.{allWithin}
 use Rattle.line_forms.specs.Contents.{bytesOf, Writable, inRange}
+use Rattle.line_forms.specs.Names.{NameWritable, isName, lettersOf}
 use Rattle.line_forms.specs.Readings.{longestLine, headerOf, contentOf}
 use Rattle.line_forms.specs.declared.Header.{Header}
 use Rattle.line_forms.specs.declared.Content.{Content}
 use Rattle.line_forms.specs.declared.Content.the-variants.{Header as header, Loan as loan, Policy as policy, Derivative as derivative}
-use Rattle.line_forms.specs.declared.Content.the-variants.{Asset as asset, Amount as amount, Index as index, NoForm}
+use Rattle.line_forms.specs.declared.Content.the-variants.{Asset as asset, Amount as amount, Index as index, Mark as mark, NoForm}
 use Rattle.line_forms.specs.declared.Line.{Line}
 use Rattle.line_forms.specs.declared.Line.the-variants.{Loan as LoanLine, Policy as PolicyLine, Derivative as DerivativeLine}
-use Rattle.line_forms.specs.declared.Line.the-variants.{Asset as AssetLine, Amount as AmountLine, Index as IndexLine, Refusal}
+use Rattle.line_forms.specs.declared.Line.the-variants.{Asset as AssetLine, Amount as AmountLine, Index as IndexLine, Mark as MarkRead, Refusal}
 use Rattle.line_forms.specs.declared.HeaderLine.{HeaderLine}
 use Rattle.line_forms.specs.declared.HeaderLine.the-variants.{Header as HeaderRead, Refusal as HeaderRefusal}
 
@@ -36,6 +38,7 @@ AfterHeader (derivative d) = Unit {0}
 AfterHeader (asset a) = Unit {0}
 AfterHeader (amount a) = Unit {0}
 AfterHeader (index i) = Unit {0}
+AfterHeader (mark m) = Unit {0}
 AfterHeader NoForm = ⊥
 
 -- line reading's answer that holds such data
@@ -47,6 +50,7 @@ lineWith (derivative d) = DerivativeLine d
 lineWith (asset a) = AssetLine a
 lineWith (amount a) = AmountLine a
 lineWith (index i) = IndexLine i
+lineWith (mark m) = MarkRead m
 lineWith NoForm = Refusal 2
 
 -- 01: "If an answer is an enum, a definition gives this paper's number and values for each of its cases. The promises use this definition."
@@ -58,6 +62,7 @@ lineRefusal (DerivativeLine d) = 0
 lineRefusal (AssetLine a) = 0
 lineRefusal (AmountLine a) = 0
 lineRefusal (IndexLine i) = 0
+lineRefusal (MarkRead m) = 0
 lineRefusal (Refusal n) = n
 
 abbrev pub headerRefusal : HeaderLine → ℕ
@@ -72,6 +77,7 @@ lineContent (DerivativeLine d) = derivative d
 lineContent (AssetLine a) = asset a
 lineContent (AmountLine a) = amount a
 lineContent (IndexLine i) = index i
+lineContent (MarkRead m) = mark m
 lineContent (Refusal n) = NoForm
 
 abbrev pub headerContent : HeaderLine → Content
@@ -113,3 +119,9 @@ pub record BytesRead : Type 0 where
   pub short : (c : Content) → Writable c → length (bytesOf c) ≤ 196
   pub back : (c : Content) → Writable c → contentOf (bytesOf c) ≡ c
   pub header-back : (h : Header) → inRange (header h) ≡ true → h .unscored + h .fresh ≤ h .loans → headerOf (bytesOf (header h)) ≡ HeaderRead h
+
+-- 02, L6: the numbers from 1 to mostName are the names of 1 to 12 lower-case letters, one each.
+pub record NameNumbers : Type 0 where
+  pub letters : (n : ℕ) → NameWritable n → (isName (lettersOf n) ≡ true) × (allWithin 97 122 (lettersOf n) ≡ true)
+  pub number : (t : List ℕ) → isName t ≡ true → allWithin 97 122 t ≡ true → (n : ℕ) × NameWritable n × (t ≡ lettersOf n)
+  pub same : (m n : ℕ) → NameWritable m → NameWritable n → (lettersOf m ≡ lettersOf n) ↔ (m ≡ n)

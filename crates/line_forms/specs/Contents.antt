@@ -1,4 +1,4 @@
--- 01, "A book, line by line", and 02, L4 and L5: each form as it is shown there, its data, and its ranges with both ends.
+-- 01, "A book, line by line", and 02, L4 to L6: each form as it is shown there, its data, and its ranges with both ends.
 use Prim.Native.Nat.{ℕ, _*_, _%_}
 use mathlib.Core.Bool.{Bool, true, false, _&&_}
 use mathlib.Core.List.{List, []}
@@ -8,7 +8,7 @@ use Rattle.loan_charge.specs.declared.Score.{Score}
 use Rattle.loan_charge.specs.declared.Score.the-variants.{Scored, Unscored}
 use Rattle.exact.specs.Text.{text}
 use Rattle.line_forms.specs.Bytes.{within}
-use Rattle.line_forms.specs.Forms.{choicesOf, Form, field, end, number, signed, word, score, Values, AllWritable, formText}
+use Rattle.line_forms.specs.Forms.{choicesOf, Form, field, end, number, signed, word, score, name, Values, AllWritable, formText}
 use Rattle.fixed_point.specs.declared.Signed.{Signed}
 use Rattle.line_forms.specs.declared.Header.{Header}
 use Rattle.line_forms.specs.declared.Loan.{Loan}
@@ -23,9 +23,10 @@ use Rattle.line_forms.specs.declared.Item.{Item}
 use Rattle.line_forms.specs.declared.Item.the-variants.{Claims, Lossc, Stated, Equity as EquityItem, Aoci, B, C}
 use Rattle.line_forms.specs.declared.Amount.{Amount}
 use Rattle.line_forms.specs.declared.IndexValue.{IndexValue}
+use Rattle.line_forms.specs.declared.MarkLine.{MarkLine}
 use Rattle.line_forms.specs.declared.Content.{Content}
 use Rattle.line_forms.specs.declared.Content.the-variants.{Header as header, Loan as loan, Policy as policy, Derivative as derivative}
-use Rattle.line_forms.specs.declared.Content.the-variants.{Asset as asset, Amount as amount, Index as index, NoForm}
+use Rattle.line_forms.specs.declared.Content.the-variants.{Asset as asset, Amount as amount, Index as index, Mark as mark, NoForm}
 
 -- The header.
 
@@ -205,6 +206,19 @@ indexValues i = (i .area, (i .month, (i .value, tt)))
 unfoldable pub indexInRange : IndexValue → Bool
 indexInRange i = monthInRange 200501 201512 (i .month) && within 1 1000000 (i .value)
 
+-- Marks and returns to them (02, L6).
+
+-- (mark NAME), (back NAME)
+abbrev pub markText : (back : Bool) → List ℕ
+markText false = text "(mark "
+markText true = text "(back "
+
+abbrev pub markForm : (back : Bool) → Form
+markForm back = field (markText back) name (end (text ")"))
+
+abbrev pub markValues : (m : MarkLine) → Values (markForm (m .back))
+markValues m = (m .name, tt)
+
 -- What a line holds, and how that is written.
 
 abbrev pub formFor : Content → Form
@@ -215,6 +229,7 @@ formFor (derivative d) = derivativeForm
 formFor (asset a) = assetForm
 formFor (amount a) = amountForm (a .item)
 formFor (index i) = indexForm
+formFor (mark m) = markForm (m .back)
 formFor NoForm = end []
 
 abbrev pub valuesFor : (c : Content) → Values (formFor c)
@@ -225,6 +240,7 @@ valuesFor (derivative d) = derivativeValues d
 valuesFor (asset a) = assetValues a
 valuesFor (amount a) = amountValues (a .item) (a .amount)
 valuesFor (index i) = indexValues i
+valuesFor (mark m) = markValues m
 valuesFor NoForm = tt
 
 -- the bytes of what a line holds
@@ -241,7 +257,7 @@ SignFits Aoci n = Unit {0}
 SignFits B n = n .minus ≡ 0
 SignFits C n = n .minus ≡ 0
 
--- each number is one that its D or S can write, each area one of the names
+-- each number is one that its D or S can write, each area one of the names, and a mark's number a name's
 abbrev pub Writable : Content → Type 0
 Writable (header h) = AllWritable headerForm (headerValues h)
 Writable (loan l) = AllWritable loanForm (loanValues l)
@@ -250,8 +266,10 @@ Writable (derivative d) = AllWritable derivativeForm (derivativeValues d)
 Writable (asset a) = AllWritable assetForm (assetValues a)
 Writable (amount a) = AllWritable (amountForm (a .item)) (amountValues (a .item) (a .amount)) × SignFits (a .item) (a .amount)
 Writable (index i) = AllWritable indexForm (indexValues i)
+Writable (mark m) = AllWritable (markForm (m .back)) (markValues m)
 Writable NoForm = ⊥
 
+-- a mark has no number, so none out of range
 unfoldable pub inRange : Content → Bool
 inRange (header h) = headerInRange h
 inRange (loan l) = loanInRange l
@@ -260,4 +278,5 @@ inRange (derivative d) = derivativeInRange d
 inRange (asset a) = assetInRange a
 inRange (amount a) = amountInRange a
 inRange (index i) = indexInRange i
+inRange (mark m) = true
 inRange NoForm = false

@@ -1,5 +1,6 @@
--- One line of every form as text, as 01, "A book, line by line", and 02, L4 and L5, show the forms.
+-- One line of every form as text, as 01, "A book, line by line", and 02, L4 to L6, show the forms.
 -- A word that is misspelt alike in the definitions and in the code is seen here.
+use mathlib.Core.Bool.{true, false}
 use Rattle.exact.specs.Text.{text}
 use Rattle.loan_charge.specs.declared.Score.the-variants.{Scored, Unscored}
 use Rattle.line_forms.specs.Claims.{ShowsInRange}
@@ -7,7 +8,7 @@ use Rattle.line_forms.specs.declared.Class.the-variants.{Home, Multi}
 use Rattle.line_forms.specs.declared.Kind.the-variants.{Rate, Float, Fx, Equity as EquityKind, Metal, Other}
 use Rattle.line_forms.specs.declared.Item.the-variants.{Claims, Lossc, Stated, Equity as EquityItem, Aoci, B, C}
 use Rattle.line_forms.specs.declared.Content.the-variants.{Header as header, Loan as loan, Policy as policy, Derivative as derivative}
-use Rattle.line_forms.specs.declared.Content.the-variants.{Asset as asset, Amount as amount, Index as index}
+use Rattle.line_forms.specs.declared.Content.the-variants.{Asset as asset, Amount as amount, Index as index, Mark as mark}
 
 pub record LineTexts : Type 0 where
   pub book :
@@ -112,3 +113,12 @@ pub record LineTexts : Type 0 where
   pub composite :
       ShowsInRange (text "(index other 201512 10250)")
       (index (record { area = 11; month = 201512; value = 10250 }))
+  pub mark-first :
+      ShowsInRange (text "(mark a)")
+      (mark (record { back = false; name = 1 }))
+  pub mark-region :
+      ShowsInRange (text "(mark ontario)")
+      (mark (record { back = false; name = 4809245417 }))
+  pub back-last :
+      ShowsInRange (text "(back zzzzzzzzzzzz)")
+      (mark (record { back = true; name = 99246114928149462 }))

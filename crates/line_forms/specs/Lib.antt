@@ -3,6 +3,7 @@ pub mod Claims
 pub mod Contents
 pub mod Examples
 pub mod Forms
+pub mod Names
 pub mod Numerals
 pub mod Parsing
 pub mod Readings

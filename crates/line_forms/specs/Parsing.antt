@@ -8,7 +8,8 @@ use lib.ListN.{length, drop, getD}
 use Rattle.exact.specs.Choice.{pick}
 use Rattle.exact.specs.Text.{text}
 use Rattle.line_forms.specs.Bytes.{past, after, runOf, same}
-use Rattle.line_forms.specs.Forms.{Field, number, signed, word, score, Form, field, end, Value, Values}
+use Rattle.line_forms.specs.Forms.{Field, number, signed, word, score, name, Form, field, end, Value, Values}
+use Rattle.line_forms.specs.Names.{isName, nameFrom}
 use Rattle.line_forms.specs.Numerals.{isNumeral, valueFrom}
 use Rattle.fixed_point.specs.declared.Signed.{Signed}
 use Rattle.loan_charge.specs.declared.Score.{Score}
@@ -68,17 +69,25 @@ scoreAt s at = pick (noneAt s at) Unscored (Scored (numberAt s at) (numberAt s (
 unfoldable pub afterScore : List ℕ → ℕ → ℕ
 afterScore s at = pick (noneAt s at) (at + length (lettersAt s at)) (afterNumber s (ageAfter s at))
 
+unfoldable pub nameAt : List ℕ → ℕ → ℕ
+nameAt s at = pick (isName (lettersAt s at)) (nameFrom 0 (lettersAt s at)) 0
+
+unfoldable pub afterName : List ℕ → ℕ → ℕ
+afterName s at = pick (isName (lettersAt s at)) (at + length (lettersAt s at)) (past s)
+
 abbrev pub fieldAt : (k : Field) → List ℕ → ℕ → Value k
 fieldAt number s at = numberAt s at
 fieldAt signed s at = signedAt s at
 fieldAt (word choices) s at = placeOf (lettersAt s at) choices
 fieldAt score s at = scoreAt s at
+fieldAt name s at = nameAt s at
 
 abbrev pub afterField : Field → List ℕ → ℕ → ℕ
 afterField number s at = afterNumber s at
 afterField signed s at = afterSigned s at
 afterField (word choices) s at = afterWord choices s at
 afterField score s at = afterScore s at
+afterField name s at = afterName s at
 
 abbrev pub valuesAt : (f : Form) → List ℕ → ℕ → Values f
 valuesAt (field t k f) s at =

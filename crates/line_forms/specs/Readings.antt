@@ -1,5 +1,6 @@
 -- What a line holds, as a function of its bytes, and the answers of line reading and header reading.
 use Prim.Native.Nat.{ℕ, _+_}
+use mathlib.Core.Bool.{Bool, true, false}
 use mathlib.Core.List.{List}
 use lib.Dec.{ltb, eqb}
 use lib.ListN.{length}
@@ -9,6 +10,7 @@ use Rattle.line_forms.specs.Forms.{Values, choicesOf}
 use Rattle.line_forms.specs.Parsing.{valuesAt, hasForm, lettersAt, placeOf}
 use Rattle.line_forms.specs.Contents.{headerForm, headerInRange, loanForm, loanInRange, policyForm, policyInRange, derivativeForm}
 use Rattle.line_forms.specs.Contents.{derivativeInRange, assetForm, assetInRange, plainForm, signedForm, amountInRange, indexForm, indexInRange}
+use Rattle.line_forms.specs.Contents.{markForm}
 use Rattle.fixed_point.specs.declared.Signed.{Signed}
 use Rattle.line_forms.specs.declared.Header.{Header}
 use Rattle.line_forms.specs.declared.Loan.{Loan}
@@ -22,12 +24,13 @@ use Rattle.line_forms.specs.declared.Asset.{Asset}
 use Rattle.line_forms.specs.declared.Item.{Item}
 use Rattle.line_forms.specs.declared.Item.the-variants.{Claims, Lossc, Stated, Equity, Aoci, B, C}
 use Rattle.line_forms.specs.declared.IndexValue.{IndexValue}
+use Rattle.line_forms.specs.declared.MarkLine.{MarkLine}
 use Rattle.line_forms.specs.declared.Content.{Content}
 use Rattle.line_forms.specs.declared.Content.the-variants.{Header as header, Loan as loan, Policy as policy, Derivative as derivative}
-use Rattle.line_forms.specs.declared.Content.the-variants.{Asset as asset, Amount as amount, Index as index, NoForm}
+use Rattle.line_forms.specs.declared.Content.the-variants.{Asset as asset, Amount as amount, Index as index, Mark as mark, NoForm}
 use Rattle.line_forms.specs.declared.Line.{Line}
 use Rattle.line_forms.specs.declared.Line.the-variants.{Loan as LoanLine, Policy as PolicyLine, Derivative as DerivativeLine}
-use Rattle.line_forms.specs.declared.Line.the-variants.{Asset as AssetLine, Amount as AmountLine, Index as IndexLine, Refusal}
+use Rattle.line_forms.specs.declared.Line.the-variants.{Asset as AssetLine, Amount as AmountLine, Index as IndexLine, Mark as MarkRead, Refusal}
 use Rattle.line_forms.specs.declared.HeaderLine.{HeaderLine}
 use Rattle.line_forms.specs.declared.HeaderLine.the-variants.{Header as HeaderRead, Refusal as HeaderRefusal}
 
@@ -85,6 +88,9 @@ assetWith v = record { amount = v .0; factor = v .1 .0 }
 abbrev pub indexWith : Values indexForm → IndexValue
 indexWith v = record { area = v .0; month = v .1 .0; value = v .1 .1 .0 }
 
+abbrev pub markWith : (back : Bool) → Values (markForm back) → MarkLine
+markWith back v = record { back = back; name = v .0 }
+
 -- an amount without a sign
 abbrev pub unsigned : ℕ → Signed
 unsigned n = record { plus = n; minus = 0 }
@@ -110,6 +116,9 @@ assetHeld s = pick (hasForm assetForm s) (asset (assetWith (valuesAt assetForm s
 unfoldable pub indexHeld : List ℕ → Content
 indexHeld s = pick (hasForm indexForm s) (index (indexWith (valuesAt indexForm s 0))) NoForm
 
+unfoldable pub markHeld : (back : Bool) → List ℕ → Content
+markHeld back s = pick (hasForm (markForm back) s) (mark (markWith back (valuesAt (markForm back) s 0))) NoForm
+
 -- an amount after the text t
 unfoldable pub plainHeld : Item → List ℕ → List ℕ → Content
 plainHeld i t s =
@@ -122,7 +131,7 @@ signedHeld i t s =
 
 -- the name of each form, after its opening bracket
 abbrev pub names : List (List ℕ)
-names = choicesOf (text "loan|policy|deriv|asset|book|claims|lossc|stated|equity|aoci|b|c|index")
+names = choicesOf (text "loan|policy|deriv|asset|book|claims|lossc|stated|equity|aoci|b|c|index|mark|back")
 
 -- an amount by the place of its name
 unfoldable pub amountHeld : ℕ → List ℕ → Content
@@ -143,7 +152,9 @@ heldAs name s =
     (pick (eqb name 2) (derivativeHeld s)
     (pick (eqb name 3) (assetHeld s)
     (pick (eqb name 4) (headerHeld s)
-    (pick (eqb name 12) (indexHeld s) (amountHeld name s))))))
+    (pick (eqb name 12) (indexHeld s)
+    (pick (eqb name 13) (markHeld false s)
+    (pick (eqb name 14) (markHeld true s) (amountHeld name s))))))))
 
 -- What a line holds.
 unfoldable pub contentOf : List ℕ → Content
@@ -159,6 +170,7 @@ lineFor (derivative d) = pick (derivativeInRange d) (DerivativeLine d) (Refusal 
 lineFor (asset a) = pick (assetInRange a) (AssetLine a) (Refusal 3)
 lineFor (amount a) = pick (amountInRange a) (AmountLine a) (Refusal 3)
 lineFor (index i) = pick (indexInRange i) (IndexLine i) (Refusal 3)
+lineFor (mark m) = MarkRead m
 
 -- 01: "A line is at most 240 bytes, without its newline."
 abbrev pub longestLine : ℕ
@@ -177,6 +189,7 @@ headerFor (derivative d) = HeaderRefusal 7
 headerFor (asset a) = HeaderRefusal 7
 headerFor (amount a) = HeaderRefusal 7
 headerFor (index i) = HeaderRefusal 7
+headerFor (mark m) = HeaderRefusal 7
 headerFor (header h) =
     pick (headerInRange h) (pick (ltb (h .loans) (h .unscored + h .fresh)) (HeaderRefusal 4) (HeaderRead h)) (HeaderRefusal 3)
 

@@ -37,6 +37,12 @@ pub struct IndexValue {
     pub value: u64,
 }
 
+// A mark that keeps the book under a name, or a return to it; the name as a number.
+pub struct MarkLine {
+    pub back: bool,
+    pub name: u64,
+}
+
 pub enum Class {
     Home,
     Multi,
@@ -102,6 +108,7 @@ pub enum Content {
     Asset(Asset),
     Amount(Amount),
     Index(IndexValue),
+    Mark(MarkLine),
     NoForm,
 }
 
@@ -113,6 +120,7 @@ pub enum Line {
     Asset(Asset),
     Amount(Amount),
     Index(IndexValue),
+    Mark(MarkLine),
     Refusal(u64),
 }
 

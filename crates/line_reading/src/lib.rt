@@ -32,6 +32,7 @@ fn line_for(c: Content) -> Line
         Content::Asset(a) => ranged(ranges::asset(a), Line::Asset(a)),
         Content::Amount(a) => ranged(ranges::amount(a), Line::Amount(a)),
         Content::Index(i) => ranged(ranges::index(i), Line::Index(i)),
+        Content::Mark(m) => Line::Mark(m),
     }
 }
 
@@ -76,6 +77,7 @@ fn header_for(c: Content) -> HeaderLine
         Content::Asset(_) => HeaderLine::Refusal(7),
         Content::Amount(_) => HeaderLine::Refusal(7),
         Content::Index(_) => HeaderLine::Refusal(7),
+        Content::Mark(_) => HeaderLine::Refusal(7),
     }
 }
 

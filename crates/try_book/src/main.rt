@@ -10,10 +10,11 @@ use book_model::Closed;
 use cell_report::Cells;
 use house_index::Index;
 use loan_charge::credit::Rates;
+use marks::Marks;
 use sheet_file::Room;
 
 // The calls are read at once, at most so many bytes.
-const INPUT: usize = 131072;
+const INPUT: usize = 196608;
 
 // The buffers of the two closings.
 const REPORT: usize = 640;
@@ -25,10 +26,16 @@ fn print_answer(call: &[u8], refusal: u64) {
     io::print_decimal(1, refusal);
 }
 
-fn open(line: &[u8], rates: &mut Rates, cells: &mut Cells, index: &mut Index) -> Book
-    ensures { λ r. ⌜ Sound (stateAt r (now (rates .exit)) (now (cells .exit)) (now (index .exit))) ⌝ }
+fn open(
+    line: &[u8],
+    rates: &mut Rates,
+    cells: &mut Cells,
+    index: &mut Index,
+    marks: &mut Marks,
+) -> Book
+    ensures { λ r. ⌜ Sound (stateAt r (now (rates .exit)) (now (cells .exit)) (now (index .exit)) (now (marks .exit))) ⌝ }
 {
-    let opened = book::open(line, rates, cells, index);
+    let opened = book::open(line, rates, cells, index, marks);
     print_answer(b"o ", opened.refusal);
     io::write_all(1, b"\n");
     opened.book
@@ -52,12 +59,13 @@ fn open_sheet(
     rates: &mut Rates,
     cells: &mut Cells,
     index: &mut Index,
+    marks: &mut Marks,
 ) -> Book
-    ensures { λ r. ⌜ Sound (stateAt r (now (rates .exit)) (now (cells .exit)) (now (index .exit))) ⌝ }
+    ensures { λ r. ⌜ Sound (stateAt r (now (rates .exit)) (now (cells .exit)) (now (index .exit)) (now (marks .exit))) ⌝ }
 {
     let mut room = [0u64; sheet_file::MOST];
     let count = numbers_of(numbers, &mut room);
-    let opened = book::open_sheet(line, &room[0..count], rates, cells, index);
+    let opened = book::open_sheet(line, &room[0..count], rates, cells, index, marks);
     print_answer(b"s ", opened.refusal);
     io::write_all(1, b"\n");
     opened.book
@@ -75,11 +83,18 @@ fn tell_numbers(text: &[u8]) {
     }
 }
 
-fn feed(b: Book, rates: &Rates, cells: &mut Cells, index: &mut Index, line: &[u8]) -> Book
-    requires { ⌜ Sound (stateAt b (now rates) (now cells) (now index)) ⌝ }
-    ensures { λ r. ⌜ Sound (stateAt r (now (rates .entry)) (now (cells .exit)) (now (index .exit))) ⌝ }
+fn feed(
+    b: Book,
+    rates: &Rates,
+    cells: &mut Cells,
+    index: &mut Index,
+    marks: &mut Marks,
+    line: &[u8],
+) -> Book
+    requires { ⌜ Sound (stateAt b (now rates) (now cells) (now index) (now marks)) ⌝ }
+    ensures { λ r. ⌜ Sound (stateAt r (now (rates .entry)) (now (cells .exit)) (now (index .exit)) (now (marks .exit))) ⌝ }
 {
-    let fed = book::feed(b, rates, cells, index, line);
+    let fed = book::feed(b, rates, cells, index, marks, line);
     print_answer(b"f ", fed.refusal);
     io::write_all(1, b"\n");
     fed.book
@@ -139,20 +154,21 @@ fn call_book(
     rates: &mut Rates,
     cells: &mut Cells,
     index: &mut Index,
+    marks: &mut Marks,
     kind: u8,
     rest: &[u8],
 ) -> Book
-    requires { ⌜ Sound (stateAt b (now rates) (now cells) (now index)) ⌝ }
-    ensures { λ r. ⌜ Sound (stateAt r (now (rates .exit)) (now (cells .exit)) (now (index .exit))) ⌝ }
+    requires { ⌜ Sound (stateAt b (now rates) (now cells) (now index) (now marks)) ⌝ }
+    ensures { λ r. ⌜ Sound (stateAt r (now (rates .exit)) (now (cells .exit)) (now (index .exit)) (now (marks .exit))) ⌝ }
 {
     if kind == b'o' {
-        return open(rest, rates, cells, index);
+        return open(rest, rates, cells, index, marks);
     }
     if kind == b's' {
-        return open_sheet(rest, numbers, rates, cells, index);
+        return open_sheet(rest, numbers, rates, cells, index, marks);
     }
     if kind == b'f' {
-        return feed(b, rates, cells, index, rest);
+        return feed(b, rates, cells, index, marks, rest);
     }
     if kind == b't' {
         close_cells(b, cells, rest);
@@ -175,13 +191,14 @@ fn call(
     rates: &mut Rates,
     cells: &mut Cells,
     index: &mut Index,
+    marks: &mut Marks,
     s: &[u8],
     at: usize,
     end: usize,
 ) -> Held
-    requires { ⌜ Sound (stateAt (held .b) (now rates) (now cells) (now index)) × (held .from ≤ held .to) × (held .to ≤ length (now s)) × (at ≤ end)
+    requires { ⌜ Sound (stateAt (held .b) (now rates) (now cells) (now index) (now marks)) × (held .from ≤ held .to) × (held .to ≤ length (now s)) × (at ≤ end)
         × (end ≤ length (now s)) ⌝ }
-    ensures { λ r. ⌜ Sound (stateAt (r .b) (now (rates .exit)) (now (cells .exit)) (now (index .exit))) × (r .from ≤ r .to) ×
+    ensures { λ r. ⌜ Sound (stateAt (r .b) (now (rates .exit)) (now (cells .exit)) (now (index .exit)) (now (marks .exit))) × (r .from ≤ r .to) ×
         (r .to ≤ length (now (s .entry))) ⌝ }
 {
     if end <= at {
@@ -206,6 +223,7 @@ fn call(
         rates,
         cells,
         index,
+        marks,
         kind,
         &s[rest..end],
     );
@@ -223,16 +241,18 @@ fn call_at(
     rates: &mut Rates,
     cells: &mut Cells,
     index: &mut Index,
+    marks: &mut Marks,
     s: &[u8],
     at: usize,
 ) -> Turn
-    requires { ⌜ Sound (stateAt (held .b) (now rates) (now cells) (now index)) × (held .from ≤ held .to) × (held .to ≤ length (now s)) ×
+    requires { ⌜ Sound (stateAt (held .b) (now rates) (now cells) (now index) (now marks)) × (held .from ≤ held .to) × (held .to ≤ length (now s)) ×
         (at < length (now s)) ⌝ }
-    ensures { λ r. ⌜ Sound (stateAt (r .held .b) (now (rates .exit)) (now (cells .exit)) (now (index .exit))) × (r .held .from ≤ r .held .to)
+    ensures { λ r. ⌜ Sound (stateAt (r .held .b) (now (rates .exit)) (now (cells .exit)) (now (index .exit)) (now (marks .exit))) ×
+        (r .held .from ≤ r .held .to)
         × (r .held .to ≤ length (now (s .entry))) × (at < r .at) ⌝ }
 {
     let end = bytes::scan::find(s, at, s.len(), b'\n');
-    let next = call(held, rates, cells, index, s, at, end);
+    let next = call(held, rates, cells, index, marks, s, at, end);
     Turn {
         held: next,
         at: end + 1,
@@ -240,13 +260,13 @@ fn call_at(
 }
 
 // The calls of the input, on the book of a refused opening and with an empty sheet at first.
-fn call_all(s: &[u8], rates: &mut Rates, cells: &mut Cells, index: &mut Index) {
-    let opened = book::open(b"", rates, cells, index);
+fn call_all(s: &[u8], rates: &mut Rates, cells: &mut Cells, index: &mut Index, marks: &mut Marks) {
+    let opened = book::open(b"", rates, cells, index, marks);
     let b = opened.book;
     let mut held = Held { b, from: 0, to: 0 };
     let mut at = 0;
     while at < s.len() {
-        let turn = call_at(held, rates, cells, index, s, at);
+        let turn = call_at(held, rates, cells, index, marks, s, at);
         held = turn.held;
         at = turn.at;
     }
@@ -259,5 +279,6 @@ fn main() {
     let mut rates = [0u64; loan_charge::credit::RATES];
     let mut cells = [0u64; cell_report::PLACES];
     let mut index = [0u64; house_index::PLACES];
-    call_all(&buf[0..n], &mut rates, &mut cells, &mut index);
+    let mut marks = marks::none();
+    call_all(&buf[0..n], &mut rates, &mut cells, &mut index, &mut marks);
 }

@@ -18,6 +18,7 @@ use line_forms::Item;
 use line_forms::Kind;
 use line_forms::Line;
 use line_forms::Loan;
+use line_forms::MarkLine;
 use line_forms::Policy;
 use loan_charge::Score;
 
@@ -158,6 +159,14 @@ fn index_answer(x: IndexValue) -> Answer {
     accepted(8, x.area, x.month, x.value, 0)
 }
 
+// A mark, or a return to it, and the number of its name.
+fn mark_answer(x: MarkLine) -> Answer {
+    if x.back {
+        return accepted(10, x.name, 0, 0, 0);
+    }
+    accepted(9, x.name, 0, 0, 0)
+}
+
 fn line_answer(l: Line) -> Answer {
     match l {
         Line::Loan(x) => loan_answer(x),
@@ -166,6 +175,7 @@ fn line_answer(l: Line) -> Answer {
         Line::Asset(x) => asset_answer(x),
         Line::Amount(x) => amount_answer(x),
         Line::Index(x) => index_answer(x),
+        Line::Mark(x) => mark_answer(x),
         Line::Refusal(n) => refused(n),
     }
 }

@@ -1,14 +1,15 @@
 use denote.Ref.{now}
 use Rattle.book_model.specs.Calls.{State, stateAt}
+use Rattle.book_model.specs.Marks.{noMarks}
 use Rattle.book_model.specs.Ranges.{AdjustmentRanges}
 use Rattle.book.proofs.Answers.{loan-refused, loan-lacks, ranges, loan-asks, cell-asks, loan-taken}
 use borrow.Author.Needs.{needs}
 use Rattle.book.proofs.add_loan.Statement.{statement}
 use Rattle.book.proofs.add_loan.Tie as tie
 
--- the state that the call is handed
+-- the state that the call is handed, with no mark
 stateFor : tie.Start → State
-stateFor c = stateAt (c .args .b) (now (c .args .rates)) (now (c .args .cells)) (now (c .args .index))
+stateFor c = stateAt (c .args .b) (now (c .args .rates)) (now (c .args .cells)) (now (c .args .index)) noMarks
 
 returns : tie.Need-returns
 unfolding stateFor

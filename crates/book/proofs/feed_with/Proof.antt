@@ -8,18 +8,18 @@ use Rattle.book.proofs.feed_with.Tie as tie
 
 -- the state that the call is handed
 stateFor : tie.Start → State
-stateFor c = stateAt (c .args .b) (now (c .args .rates)) (now (c .args .cells)) (now (c .args .index))
+stateFor c = stateAt (c .args .b) (now (c .args .rates)) (now (c .args .cells)) (now (c .args .index)) (now (c .args .marks))
 
 feed-line-requires : tie.Need-feed-line-requires
 feed-line-requires c κs =
-    let start = c .before .before .before .before .before in
-    (start .pre .0, rw (c .before .before .before .read-line .ensures .0) (ranged (now (start .args .line))), start .pre .1)
+    let start = c .before .before .before .before .before .before in
+    (start .pre .0, rw (c .before .before .before .before .read-line .ensures .0) (ranged (now (start .args .line))), start .pre .1)
 
 returns : tie.Need-returns
 unfolding stateFor
 returns c =
-    let start = c .before .before .before .before .before .before in
-    fed (stateFor start) (now (start .args .line)) (c .before .before .before .before .read-line .ensures .0) (start .pre .0) (c .feed-line .ensures)
+    let start = c .before .before .before .before .before .before .before in
+    fed (stateFor start) (now (start .args .line)) (c .before .before .before .before .before .read-line .ensures .0) (start .pre .0) (c .feed-line .ensures)
 
 returns-2 : tie.Need-returns-2
 unfolding stateFor

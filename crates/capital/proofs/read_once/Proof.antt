@@ -15,24 +15,26 @@ use Rattle.capital.proofs.read_once.Tie as tie
 returns : tie.Need-returns
 returns c =
     let start = c .before .before .before .before .before .before .before in
-    let s = readingOf (start .args .run) (now (start .args .sheet)) (now (start .args .rates)) (now (start .args .cells)) (now (start .args .index)) in
+    let s = readingOf (start .args .run) (now (start .args .sheet)) (now (start .args .rates)) (now (start .args .cells)) (now (start .args .index))
+    (now (start .args .marks)) in
     (read-none s (c .before .before .before .read .last .1 .0), ((start .pre .0, omega arith), ends-failed s 0 false))
 
 returns-2 : tie.Need-returns-2
 returns-2 c =
-    let start = c .before .before .before .before .before .before .before .before .before .before .before .before .before .before .before .before .before .before in
+    let start = c .before .before .before .before .before .before .before .before .before .before .before .before .before .before .before .before .before .before .before in
     let r = c .before .before .before .step in
-    let buffer = c .before .before .before .before .before .before .before .before .before .before .before .before .before .before .read .last .1 .0 in
-    let k = c .before .before .before .before .before .before .before .before .before .count in
+    let buffer = c .before .before .before .before .before .before .before .before .before .before .before .before .before .before .before .read .last .1 .0 in
+    let k = c .before .before .before .before .before .before .before .before .before .before .count in
     let running = r .ensures .1 .0 in
     let few : k .result - 0 ≡ k .result = omega arith in
     let size : length (take (k .result - 0) buffer) ≡ k .result = ap (λ (n : ℕ). length (take n buffer)) few
     ∙ length-take-le (k .result) buffer (search needs) in
     let held : length (take (r .result .held) (r .result .tail)) ≡ r .result .held =
     length-take-le (r .result .held) (r .result .tail) (omega (arith, running .held, running .room)) in
-    let after = readingOf (r .result) (now (start .args .sheet)) (r .last .1 .1 .1 .0) (r .last .1 .1 .1 .1 .0) (r .last .1 .1 .1 .1 .1 .0) in (
+    let after = readingOf (r .result) (now (start .args .sheet)) (r .last .1 .1 .1 .0) (r .last .1 .1 .1 .1 .0) (r .last .1 .1 .1 .1 .1 .0)
+    (r .last .1 .1 .1 .1 .1 .1 .0) in (
       read-some (readingOf (start .args .run) (now (start .args .sheet)) (now (start .args .rates)) (now (start .args .cells))
-          (now (start .args .index))) after (k .result) buffer
+          (now (start .args .index)) (now (start .args .marks))) after (k .result) buffer
           (search needs) (r .ensures .0),
       (
         (running, r .ensures .1 .1 ∙ ap (λ (n : ℕ). start .args .run .read + n) size),
@@ -41,7 +43,7 @@ returns-2 c =
     )
 
 same-length-2 : tie.Need-same-length-2
-same-length-2 c = c .before .before .before .before .before .before .before .before .before .before .before .before .before .buf .given
+same-length-2 c = c .before .before .before .before .before .before .before .before .before .before .before .before .before .before .buf .given
 
 pub read-once-spec : {M : Type 1} → statement M
 read-once-spec =

@@ -23,11 +23,12 @@ returns c =
     let start = c .before .before .before .before .before .before .before .before .before .before in
     let a = start .args in
     let e : a .run .held ≡ 0 = c .before .before .before .before .before .before .if1 .taken in
-    prints (a .asked) (readingOf (a .run) (now (a .sheet)) (now (a .rates)) (now (a .cells)) (now (a .index))) (rw e (c .before .before .put-answer .ensures))
+    prints (a .asked) (readingOf (a .run) (now (a .sheet)) (now (a .rates)) (now (a .cells)) (now (a .index)) (now (a .marks)))
+    (rw e (c .before .before .put-answer .ensures))
 
 end-held-requires : tie.Need-end-held-requires
 end-held-requires c κs =
-    let start = c .before .before .before .before .before .before .before .before .before in
+    let start = c .before .before .before .before .before .before .before .before .before .before in
     let p = start .pre .0 in
     (p .sound, omega (arith, p .number, start .pre .1), start .pre .2, p .held, p .room, p .unended)
 
@@ -35,20 +36,20 @@ put-answer-requires-2 : tie.Need-put-answer-requires-2
 put-answer-requires-2 c κs =
     let ended = c .before .before .before .before in
     let sound = ended .end-held .ensures .1 .0 in
-    (sound .book, sound .cells, ended .before .before .before .before .before .before .before .before .before .before .pre .3)
+    (sound .book, sound .cells, ended .before .before .before .before .before .before .before .before .before .before .before .pre .3)
 
 returns-2 : tie.Need-returns-2
 returns-2 c =
-    let start = c .before .before .before .before .before .before .before .before .before .before .before .before .before .before .before .before .before in
+    let start = c .before .before .before .before .before .before .before .before .before .before .before .before .before .before .before .before .before .before in
     let a = start .args in
     let line = take (a .run .held) (a .run .tail) in
     let n : length (take (a .run .held) (a .run .tail)) ≡ a .run .held =
     length-take-le (a .run .held) (a .run .tail) (omega (arith, start .pre .0 .held, start .pre .0 .room)) in
     let e = c .before .before .before .before .before .before .before .end-held .ensures .0 in
-    prints (a .asked) (readingOf (a .run) (now (a .sheet)) (now (a .rates)) (now (a .cells)) (now (a .index)))
+    prints (a .asked) (readingOf (a .run) (now (a .sheet)) (now (a .rates)) (now (a .cells)) (now (a .index)) (now (a .marks)))
     (rw (
-      ended-line (stageAt (a .run .progress) (now (a .sheet)) (now (a .rates)) (now (a .cells)) (now (a .index))) line
-          (omega (arith, c .before .before .before .before .before .before .before .before .before .before .before .before .before .if1 .left)),
+      ended-line (stageAt (a .run .progress) (now (a .sheet)) (now (a .rates)) (now (a .cells)) (now (a .index)) (now (a .marks))) line
+          (omega (arith, c .before .before .before .before .before .before .before .before .before .before .before .before .before .before .if1 .left)),
       ← e,
     )
     (c .before .before .put-answer2 .ensures))

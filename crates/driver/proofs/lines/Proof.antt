@@ -16,13 +16,14 @@ use Rattle.driver.proofs.lines.Statement.{statement}
 use Rattle.driver.proofs.lines.Tie as tie
 
 abbrev Inv-loop : tie.InvT-loop
-Inv-loop exps sheet rates₀ cells₀ index₀ bytes size p₀ i₀ rates cells index p i =
-    (record { stage = stageAt p sheet rates cells index; tail = [] } ≡ withBytes (record { stage = stageAt p₀ sheet rates₀ cells₀ index₀; tail = [] })
+Inv-loop exps sheet rates₀ cells₀ index₀ marks₀ bytes size p₀ i₀ rates cells index marks p i =
+    (record { stage = stageAt p sheet rates cells index marks; tail = [] } ≡
+    withBytes (record { stage = stageAt p₀ sheet rates₀ cells₀ index₀ marks₀; tail = [] })
     (take i bytes))
-    × Sound (stateAt (p .book) rates cells index) × (p .number ≤ p₀ .number + i) × (i ≤ length bytes) × (exps ≡ exponentials)
+    × Sound (stateAt (p .book) rates cells index marks) × (p .number ≤ p₀ .number + i) × (i ≤ length bytes) × (exps ≡ exponentials)
 
 abbrev μ-loop : tie.MeasureT-loop
-μ-loop exps sheet rates₀ cells₀ index₀ bytes size p₀ i₀ rates cells index p i = length bytes - i
+μ-loop exps sheet rates₀ cells₀ index₀ marks₀ bytes size p₀ i₀ rates cells index marks p i = length bytes - i
 
 loop-holds : tie.Need-loop-holds Inv-loop μ-loop
 unfolding withBytes
@@ -59,13 +60,16 @@ part-end-line-end c = search needs
 
 end-line-requires : tie.Need-end-line-requires Inv-loop μ-loop
 end-line-requires c κs =
-    let l = c .before .before .before .before .before .before .before .loop in
-    (l .inv .1, omega (arith, c .before .before .before .before .before .before .before .before .before .before .pre .1), l .inv .4)
+    let l = c .before .before .before .before .before .before .before .before .loop in
+    (l .inv .1, omega (arith, c .before .before .before .before .before .before .before .before .before .before .before .pre .1), l .inv .4)
 
 add-i : tie.Need-add-i Inv-loop μ-loop
 add-i c = record {
-  fits = omega
-      (arith, c .before .before .before .before .before .before .before .before .before .before .before .pre .1, c .before .before .before .before .before .if1 .left);
+  fits = omega (
+    arith,
+    c .before .before .before .before .before .before .before .before .before .before .before .before .pre .1,
+    c .before .before .before .before .before .before .if1 .left,
+  );
 }
 
 loop-less : tie.Need-loop-less Inv-loop μ-loop
@@ -73,12 +77,14 @@ loop-less c = search needs
 
 loop-again : tie.Need-loop-again Inv-loop μ-loop
 loop-again c =
-    let a = c .before .before .before .before .before .before .before .before .before .before .before .args in
-    let l = c .before .before .before .before .before .before .before .before .loop in
-    let e = c .before .before .before .before .before .before .line-end in (
+    let a = c .before .before .before .before .before .before .before .before .before .before .before .before .args in
+    let l = c .before .before .before .before .before .before .before .before .before .loop in
+    let e = c .before .before .before .before .before .before .before .line-end in (
       (λ j. record { stage = c .end-line .ensures .0 j; tail = [] })
-          ∙ sym (line-read (record { stage = stageAt (a .before) (a .sheet .now) (a .rates .now) (a .cells .now) (a .index .now); tail = [] }) (a .bytes .now)
-          (stageAt (l .p) (a .sheet .now) (l .rates) (l .cells) (l .index)) (l .i) (e .result) (l .inv .0) (omega arith) (e .ensures .0) (omega arith)),
+          ∙ sym (line-read (record { stage = stageAt (a .before) (a .sheet .now) (a .rates .now) (a .cells .now) (a .index .now) (a .marks .now); tail = [] })
+          (a .bytes .now)
+          (stageAt (l .p) (a .sheet .now) (l .rates) (l .cells) (l .index) (l .marks)) (l .i) (e .result) (l .inv .0) (omega arith) (e .ensures .0)
+          (omega arith)),
       c .end-line .ensures .1 .0,
       omega (arith, c .end-line .ensures .1 .1, l .inv .2, e .ensures .1),
       omega arith,

@@ -13,13 +13,14 @@ use Rattle.driver.proofs.start.Tie as tie
 returns : tie.Need-returns
 unfolding unbroken
 returns c =
-    let rates = c .before .before .before .before .before .before .built-in-rates in
-    let cells = c .before .before .before .before .clear in
-    let index = c .before .before .clear2 in
+    let rates = c .before .before .before .before .before .before .before .before .built-in-rates in
+    let cells = c .before .before .before .before .before .before .clear in
+    let index = c .before .before .before .before .clear2 in
+    let marks = c .before .before .clear3 in
     let s : emptyState refusedTerms ≡ stateAt (record { header = zeroHeader; sums = c .before .none .result; indexed = 0 }) (rates .result)
-    (cells .last .0) (index .last .0) =
+    (cells .last .0) (index .last .0) (marks .last .0) =
     λ i. stateAt (record { header = zeroHeader; sums = sym (c .before .none .ensures) i; indexed = 0 }) (sym (rates .ensures) i)
-    (sym (cells .ensures) i) (sym (index .ensures) i) in (
+    (sym (cells .ensures) i) (sym (index .ensures) i) (sym (marks .ensures) i) in (
       λ sheet i. record { stage = record { refusal = 0; number = 1; sheet = sheet; state = sym s i }; tail = [] },
       (
         record {
@@ -37,6 +38,7 @@ pub start-spec : {M : Type 1} → statement M
 start-spec =
     tie.close
     (tie.spec
+    (λ c κs. search needs)
     (λ c κs. search needs)
     (λ c κs. search needs)
     (λ c κs. search needs)

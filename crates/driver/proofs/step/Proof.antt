@@ -10,13 +10,14 @@ use Rattle.driver.proofs.step.Tie as tie
 
 read-lines-requires : tie.Need-read-lines-requires
 read-lines-requires c κs =
-    let start = c .before .before .before .before .before .before .before .before .before in
+    let start = c .before .before .before .before .before .before .before .before .before .before in
     (start .pre .0 .sound, omega (arith, start .pre .0 .number), start .pre .1, start .pre .2, start .pre .0 .room)
 
 returns : tie.Need-returns
 returns c =
-    let a = c .before .before .before .before .before .before .before .before .before .before .args in
-    none-held (a .run) (now (a .sheet)) (now (a .rates)) (now (a .cells)) (now (a .index)) (now (a .chunk)) _ (c .before .before .before .before .if1 .taken)
+    let a = c .before .before .before .before .before .before .before .before .before .before .before .args in
+    none-held (a .run) (now (a .sheet)) (now (a .rates)) (now (a .cells)) (now (a .index)) (now (a .marks)) (now (a .chunk)) _
+    (c .before .before .before .before .before .if1 .taken)
     (c .read-lines .ensures)
 
 returns-2 : tie.Need-returns-2
@@ -25,53 +26,68 @@ returns-2 c =
     let a = start .args in
     let e = c .before .before .before .before .before .line-end in
     let h = c .before .before .hold in
-    all-held (a .run) (now (a .sheet)) (now (a .rates)) (now (a .cells)) (now (a .index)) (now (a .chunk)) (start .pre .0) (e .result) (e .ensures .0)
+    all-held (a .run) (now (a .sheet)) (now (a .rates)) (now (a .cells)) (now (a .index)) (now (a .marks)) (now (a .chunk)) (start .pre .0) (e .result)
+    (e .ensures .0)
     (h .result) (h .last .0) (h .ensures .0) (h .ensures .1) (search needs) (c .if2 .taken) (e .ensures .1 .1)
 
 add-from : tie.Need-add-from
 add-from c =
-    let start = c .before .before .before .before .before .before .before .before .before .before .before .before .before .before .before .before .before .before in
-    record { fits = omega (arith, c .before .before .before .before .before .before .if2 .left, start .pre .1) }
+    let start = c .before .before .before .before .before .before .before .before .before .before .before .before .before .before .before .before .before .before .before in
+    record { fits = omega (arith, c .before .before .before .before .before .before .before .if2 .left, start .pre .1) }
 
 end-held-requires : tie.Need-end-held-requires
 end-held-requires c κs =
-    let start = c .before .before .before .before .before .before .before .before .before .before .before .before .before .before .before .before in
+    let start = c .before .before .before .before .before .before .before .before .before .before .before .before .before .before .before .before .before in
     let a = start .args in
-    let e = c .before .before .before .before .before .before .before .before .before .line-end in
-    let h = c .before .before .before .before .before .before .hold in (
+    let e = c .before .before .before .before .before .before .before .before .before .before .line-end in
+    let h = c .before .before .before .before .before .before .before .hold in (
       start .pre .0 .sound,
       omega (arith, start .pre .0 .number, start .pre .1),
       start .pre .2,
       h .ensures .1,
       search needs,
-      held-more (a .run) (now (a .sheet)) (now (a .rates)) (now (a .cells)) (now (a .index)) (now (a .chunk)) (start .pre .0) (e .result) (e .ensures .0)
+      held-more (a .run) (now (a .sheet)) (now (a .rates)) (now (a .cells)) (now (a .index)) (now (a .marks)) (now (a .chunk)) (start .pre .0) (e .result)
+          (e .ensures .0)
           (h .result) (h .last .0) (h .ensures .0) .1,
     )
 
 read-lines-requires-2 : tie.Need-read-lines-requires-2
 read-lines-requires-2 c κs =
-    let after = c .before .before .before .before .before in
-    let start = after .before .before .before .before .before .before .before .before .before .before .before .before .before .before .before .before .before in
+    let after = c .before .before .before .before .before .before in
+    let start = after .before .before .before .before .before .before .before .before .before .before .before .before .before .before .before .before .before .before in
     let h = after .end-held in (
       h .ensures .1 .0,
       rw (length-take, length-drop)
-          (omega (arith, h .ensures .1 .1, start .pre .0 .number, c .before .before .before .before .before .before .before .before .before .before .if2 .left)),
+          (omega (
+            arith,
+            h .ensures .1 .1,
+            start .pre .0 .number,
+            c .before .before .before .before .before .before .before .before .before .before .before .before .if2 .left,
+          )),
       start .pre .1,
       start .pre .2,
-      search (needs, h .kept, c .before .before .before .before .before .before .before .before .before .before .before .before .hold .kept, start .pre .0 .room),
+      search (
+        needs,
+        h .kept,
+        c .before .before .before .before .before .before .before .before .before .before .before .before .before .before .hold .kept,
+        start .pre .0 .room,
+      ),
     )
 
 returns-3 : tie.Need-returns-3
 returns-3 c =
-    let found = c .before .before .before .before .before .before .before .before .before .before .before .before .before .before .before .before in
+    let found = c .before .before .before .before .before .before .before .before .before .before .before .before .before .before .before .before .before .before in
     let start = found .before .before .before .before .before .before .before in
     let a = start .args in
     let e = found .line-end in
-    let h = c .before .before .before .before .before .before .before .before .before .before .before .before .before .hold in
-    let n = c .before .before .before .before .before .before .end-held in
-    line-and-more (a .run) (now (a .sheet)) (now (a .rates)) (now (a .cells)) (now (a .index)) (now (a .chunk)) (start .pre .0) (e .result) (e .ensures .0)
-    (stageAt (n .result) (now (a .sheet)) (n .last .1 .1 .1 .1 .1 .0) (n .last .1 .1 .1 .1 .1 .1 .0) (n .last .1 .1 .1 .1 .1 .1 .1 .0)) (h .result) (h .last .0)
-    (h .ensures .0) (omega (arith, c .before .before .before .before .before .before .before .before .before .before .before .if2 .left)) (n .ensures .0)
+    let h = c .before .before .before .before .before .before .before .before .before .before .before .before .before .before .before .hold in
+    let n = c .before .before .before .before .before .before .before .end-held in
+    line-and-more (a .run) (now (a .sheet)) (now (a .rates)) (now (a .cells)) (now (a .index)) (now (a .marks)) (now (a .chunk)) (start .pre .0) (e .result)
+    (e .ensures .0)
+    (stageAt (n .result) (now (a .sheet)) (n .last .1 .1 .1 .1 .1 .0) (n .last .1 .1 .1 .1 .1 .1 .0) (n .last .1 .1 .1 .1 .1 .1 .1 .0)
+    (n .last .1 .1 .1 .1 .1 .1 .1 .1 .0)) (h .result) (h .last .0)
+    (h .ensures .0) (omega (arith, c .before .before .before .before .before .before .before .before .before .before .before .before .before .if2 .left))
+    (n .ensures .0)
     (c .read-lines2 .ensures)
 
 pub step-spec : {M : Type 1} → statement M

@@ -86,25 +86,39 @@ returns-13 c =
     (c .index .ensures)
 
 returns-14 : tie.Need-returns-14
-unfolding contentOf amountHeld
+unfolding contentOf
 returns-14 c =
+    rw (sym (c .before .before .word-at .ensures .0) ∙ c .before .match .keys14)
+    (c .mark .ensures)
+
+returns-15 : tie.Need-returns-15
+unfolding contentOf
+returns-15 c =
+    rw (sym (c .before .before .word-at .ensures .0) ∙ c .before .match .keys15)
+    (c .mark2 .ensures)
+
+returns-16 : tie.Need-returns-16
+unfolding contentOf amountHeld
+returns-16 c =
     let p = c .before .word-at .result .value in
     let k = c .match .rest in
     rw (
       ← c .before .word-at .ensures .0,
-      ne-eqb p 0 (k .0 .0 .0 .0 .0 .0 .0 .0 .0 .0 .0 .0 .1),
-      ne-eqb p 1 (k .0 .0 .0 .0 .0 .0 .0 .0 .0 .0 .0 .1),
-      ne-eqb p 2 (k .0 .0 .0 .0 .0 .0 .0 .0 .0 .0 .1),
-      ne-eqb p 3 (k .0 .0 .0 .0 .0 .0 .0 .0 .0 .1),
-      ne-eqb p 4 (k .0 .0 .0 .0 .0 .0 .0 .0 .1),
-      ne-eqb p 12 (k .1),
-      ne-eqb p 5 (k .0 .0 .0 .0 .0 .0 .0 .1),
-      ne-eqb p 6 (k .0 .0 .0 .0 .0 .0 .1),
-      ne-eqb p 7 (k .0 .0 .0 .0 .0 .1),
-      ne-eqb p 8 (k .0 .0 .0 .0 .1),
-      ne-eqb p 9 (k .0 .0 .0 .1),
-      ne-eqb p 10 (k .0 .0 .1),
-      ne-eqb p 11 (k .0 .1),
+      ne-eqb p 0 (k .0 .0 .0 .0 .0 .0 .0 .0 .0 .0 .0 .0 .0 .0 .1),
+      ne-eqb p 1 (k .0 .0 .0 .0 .0 .0 .0 .0 .0 .0 .0 .0 .0 .1),
+      ne-eqb p 2 (k .0 .0 .0 .0 .0 .0 .0 .0 .0 .0 .0 .0 .1),
+      ne-eqb p 3 (k .0 .0 .0 .0 .0 .0 .0 .0 .0 .0 .0 .1),
+      ne-eqb p 4 (k .0 .0 .0 .0 .0 .0 .0 .0 .0 .0 .1),
+      ne-eqb p 12 (k .0 .0 .1),
+      ne-eqb p 13 (k .0 .1),
+      ne-eqb p 14 (k .1),
+      ne-eqb p 5 (k .0 .0 .0 .0 .0 .0 .0 .0 .0 .1),
+      ne-eqb p 6 (k .0 .0 .0 .0 .0 .0 .0 .0 .1),
+      ne-eqb p 7 (k .0 .0 .0 .0 .0 .0 .0 .1),
+      ne-eqb p 8 (k .0 .0 .0 .0 .0 .0 .1),
+      ne-eqb p 9 (k .0 .0 .0 .0 .0 .1),
+      ne-eqb p 10 (k .0 .0 .0 .0 .1),
+      ne-eqb p 11 (k .0 .0 .0 .1),
     )
 
 pub other-spec : {M : Type 1} → statement M
@@ -132,6 +146,8 @@ other-spec =
     (λ c. search needs)
     (λ c κs. search needs)
     (λ c κs. search needs)
+    (λ c κs. search needs)
+    (λ c κs. search needs)
     returns
     returns-2
     returns-3
@@ -145,4 +161,6 @@ other-spec =
     returns-11
     returns-12
     returns-13
-    returns-14)
+    returns-14
+    returns-15
+    returns-16)

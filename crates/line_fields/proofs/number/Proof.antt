@@ -10,6 +10,7 @@ use Rattle.line_forms.specs.Parsing.{numberAt, afterNumber}
 use Rattle.line_forms.proofs.Numerals.{count-some, none-count, none-zero, numeral-of}
 use Rattle.line_forms.proofs.Positions.{number-found, number-missing}
 use Rattle.line_forms.proofs.Bytes.{run-fits, run-within}
+use Rattle.line_fields.proofs.Numbers.{digits-written, digits-value}
 use borrow.Author.Needs.{needs}
 use Rattle.line_fields.proofs.number.Statement.{statement}
 use Rattle.line_fields.proofs.number.Tie as tie
@@ -57,12 +58,12 @@ add-t10 c =
 returns-3 : tie.Need-returns-3
 returns-3 c = let f = found (c .before .before) in (c .few-value .ensures ∙ f .0, f .1)
 
-value-of-requires : tie.Need-value-of-requires
-value-of-requires c κs =
-    let s = c .before .before .before .before .before .before in (
-      rw (s .pre) (run-within 48 57 (drop (s .args .at) (s .args .line .now))),
-      count-some (length (s .args .digits .now)) (c .before .before .before .if1 .left) .1,
-    )
+number-of-requires : tie.Need-number-of-requires
+number-of-requires c κs =
+    let s = c .before .before .before .before .before .before in
+    digits-written (s .args .digits .now)
+    (rw (s .pre) (run-within 48 57 (drop (s .args .at) (s .args .line .now))))
+    (count-some (length (s .args .digits .now)) (c .before .before .before .if1 .left) .1)
 
 add-t12 : tie.Need-add-t12
 add-t12 c =
@@ -70,7 +71,7 @@ add-t12 c =
     record { fits = omega (arith, ap length (s .pre), run-fits 48 57 (s .args .line .now) (s .args .at), s .good) }
 
 returns-4 : tie.Need-returns-4
-returns-4 c = let f = found (c .before .before) in (c .value-of .ensures ∙ f .0, f .1)
+returns-4 c = let f = found (c .before .before) in (c .number-of .ensures ∙ digits-value 0 _ ∙ f .0, f .1)
 
 pub number-spec : {M : Type 1} → statement M
 number-spec =
@@ -84,6 +85,6 @@ number-spec =
     few-value-requires
     add-t10
     returns-3
-    value-of-requires
+    number-of-requires
     add-t12
     returns-4)

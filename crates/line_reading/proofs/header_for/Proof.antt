@@ -64,6 +64,11 @@ unfolding headerFor
 returns-10 c =
     rw (c .enum-told7 .given .1)
 
+returns-11 : tie.Need-returns-11
+unfolding headerFor
+returns-11 c =
+    rw (c .enum-told8 .given .1)
+
 pub header-for-spec : {M : Type 1} → statement M
 header-for-spec =
     tie.close
@@ -80,6 +85,7 @@ header-for-spec =
     (λ c. search needs)
     (λ c. search needs)
     (λ c. search needs)
+    (λ c. search needs)
     returns-3
     returns-4
     returns-5
@@ -87,4 +93,5 @@ header-for-spec =
     returns-7
     returns-8
     returns-9
-    returns-10)
+    returns-10
+    returns-11)

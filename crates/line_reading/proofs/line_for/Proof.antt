@@ -36,6 +36,10 @@ returns-8 : tie.Need-returns-8
 unfolding lineFor
 returns-8 c = rw (c .before .before .before .c6 .given .1, ← c .before .index .ensures) (c .ranged6 .ensures)
 
+returns-9 : tie.Need-returns-9
+unfolding lineFor
+returns-9 c = rw (c .before .c7 .given .1)
+
 pub line-for-spec : {M : Type 1} → statement M
 line-for-spec =
     tie.close
@@ -43,4 +47,4 @@ line-for-spec =
     (λ c κs. search needs) (λ c. search needs) (λ c κs. search needs) (λ c κs. search needs) (λ c. search needs)
     (λ c κs. search needs) (λ c κs. search needs) (λ c. search needs) (λ c κs. search needs) (λ c κs. search needs)
     (λ c. search needs) (λ c κs. search needs) (λ c κs. search needs) (λ c. search needs) (λ c κs. search needs)
-    (λ c κs. search needs) returns returns-2 returns-3 returns-4 returns-5 returns-6 returns-7 returns-8)
+    (λ c κs. search needs) (λ c. search needs) returns returns-2 returns-3 returns-4 returns-5 returns-6 returns-7 returns-8 returns-9)

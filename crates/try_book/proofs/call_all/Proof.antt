@@ -7,11 +7,11 @@ use Rattle.try_book.proofs.call_all.Statement.{statement}
 use Rattle.try_book.proofs.call_all.Tie as tie
 
 abbrev Inv-loop : tie.InvT-loop
-Inv-loop s rates₀ cells₀ index₀ held₀ at₀ rates cells index held at = Sound (stateAt (held .b) rates cells index) × (held .from ≤ held .to) ×
+Inv-loop s rates₀ cells₀ index₀ marks₀ held₀ at₀ rates cells index marks held at = Sound (stateAt (held .b) rates cells index marks) × (held .from ≤ held .to) ×
     (held .to ≤ length s)
 
 abbrev μ-loop : tie.MeasureT-loop
-μ-loop s rates₀ cells₀ index₀ held₀ at₀ rates cells index held at = length s - at
+μ-loop s rates₀ cells₀ index₀ marks₀ held₀ at₀ rates cells index marks held at = length s - at
 
 pub call-all-spec : {M : Type 1} → statement M
 call-all-spec =
