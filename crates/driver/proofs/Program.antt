@@ -52,10 +52,22 @@ module _ (sheet header : List ℕ) where
       ap (λ (u : Terms). accept u (ledgerAfter sheet header before) line) (sym (terms-stay (opened sheet header) before))
       ∙ one-more (allFed (opened sheet header) before) line .1 ∙ sym (ap acceptedOf (fed-more (opened sheet header) before line))
 
+  -- lines that are all taken meet no refusal, and the other way round
+  none-refused : {lines : List (List ℕ)} → AllTaken sheet header lines → (n : ℕ) → n < length lines →
+      refusalOf t (ledgerAfter sheet header (take n lines)) (getD lines n []) ≡ 0
+  none-refused {lines} h n k = feeding-answer t (ledgerAfter sheet header (take n lines)) (getD lines n []) .taken .1 (h .taken n k)
+
+  all-taken : (lines : List (List ℕ)) → opening sheet header .refusal ≡ 0 →
+      ((n : ℕ) → n < length lines → refusalOf t (ledgerAfter sheet header (take n lines)) (getD lines n []) ≡ 0) → AllTaken sheet header lines
+  all-taken lines o f = record {
+    opens = o;
+    taken = λ n k. feeding-answer t (ledgerAfter sheet header (take n lines)) (getD lines n []) .taken .0 (f n k);
+  }
+
   -- all lines before are taken, and so is this one
   taken-more : (before : List (List ℕ)) (line : List ℕ) → AllTaken sheet header before → refusalOf t (ledgerAfter sheet header before) line ≡ 0 →
       AllTaken sheet header (before ++ (line ∷ []))
-  taken-more before line h e = record { opens = h .opens; taken = λ n k. go n (ltb n (length before)) refl k }
+  taken-more before line h e = all-taken (before ++ (line ∷ [])) (h .opens) (λ n k. go n (ltb n (length before)) refl k)
     where
       refusal : List (List ℕ) → List ℕ → ℕ
       refusal lines s = refusalOf t (ledgerAfter sheet header lines) s
@@ -64,7 +76,7 @@ module _ (sheet header : List ℕ) where
           refusalOf t (ledgerAfter sheet header (take n (before ++ (line ∷ [])))) (getD (before ++ (line ∷ [])) n []) ≡ 0
       go n true f k =
           let l : n < length before = ltb-true n (length before) f in
-          ap₂ refusal (take-append-le n before (line ∷ []) (omega (arith, l))) (List·getD-append before (line ∷ []) [] n l) ∙ h .taken n l
+          ap₂ refusal (take-append-le n before (line ∷ []) (omega (arith, l))) (List·getD-append before (line ∷ []) [] n l) ∙ none-refused h n l
       go n false f k =
           let l : length before ≡ n = omega (arith, k, length-append before (line ∷ []), ltb-false n (length before) f) in
           ap₂ refusal (take-at before (line ∷ []) n l) (getD-at before line [] [] n l) ∙ e
@@ -75,10 +87,10 @@ module _ (sheet header : List ℕ) where
   taken-at before line lines h =
       ap₂ (λ (x : List (List ℕ)) (s : List ℕ). refusalOf t (ledgerAfter sheet header x) s) (sym (take-at before (line ∷ lines) (length before) refl))
       (sym (getD-at before line lines [] (length before) refl))
-      ∙ h .taken (length before) (omega (arith, length-append before (line ∷ lines)))
+      ∙ none-refused h (length before) (omega (arith, length-append before (line ∷ lines)))
 
   none-taken : opening sheet header .refusal ≡ 0 → AllTaken sheet header []
-  none-taken e = record { opens = e; taken = λ n k. absurd (omega (arith, k)) }
+  none-taken e = all-taken [] e (λ n k. absurd (omega (arith, k)))
 
   -- the state of lines fed, whose lines still standing are in it
   unfoldable stateFor : List (List ℕ) → State
@@ -229,7 +241,7 @@ alike asked sheet header other lines others x y e f held r q p =
 worked-reports : Reports builtInSheet workedHeader workedLines
 worked-reports =
     record {
-      all = record { opens = twelve .opens12; taken = twelve .fed12 };
+      all = all-taken builtInSheet workedHeader workedLines (twelve .opens12) (twelve .fed12);
       reached = counts-none (countsIn (standing builtInSheet workedHeader workedLines));
     }
 

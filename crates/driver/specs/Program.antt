@@ -10,11 +10,12 @@ use Rattle.exact.specs.Text.{text}
 use Rattle.report.specs.Line.{refusalLine}
 use Rattle.loan_charge.specs.CreditFactor.{builtInSheet}
 use Rattle.line_forms.specs.declared.MarkLine.{MarkLine}
+use Rattle.line_forms.specs.declared.Content.{Content}
 use Rattle.line_forms.specs.declared.Content.the-variants.{Mark as mark}
 use Rattle.line_forms.specs.Claims.{ShowsInRange}
-use Rattle.book_model.specs.Accepted.{Accepted, countsIn, refusalOf}
+use Rattle.book_model.specs.Accepted.{Accepted, countsIn}
 use Rattle.book_model.specs.Calls.{opening}
-use Rattle.book_model.specs.Demand2.{OpeningAnswer, FeedingAnswer, CountsShort, CountsReached}
+use Rattle.book_model.specs.Demand2.{OpeningAnswer, Fits, FeedingAnswer, CountsShort, CountsReached}
 use Rattle.book_model.specs.Demand3.{reportFor, Measured}
 use Rattle.book_model.specs.Examples.{workedReport}
 use Rattle.book_model.specs.History.{opened, allFed, termsOf, acceptedOf, linesTaken}
@@ -30,10 +31,12 @@ ledgerAfter sheet header lines = acceptedOf (allFed (opened sheet header) lines)
 abbrev pub standing : (sheet header : List ℕ) → (lines : List (List ℕ)) → List (List ℕ)
 standing sheet header lines = linesTaken (allFed (opened sheet header) lines)
 
--- The header line opens a book under the sheet, and no line after it, marks and returns among them, meets a refusal where those before it stand.
+-- The header line opens a book under the sheet, and every line after it, marks and returns among them, has a form and range and fits where
+-- the ledger is that of the lines before it.
 pub record AllTaken (sheet header : List ℕ) (lines : List (List ℕ)) : Type 0 where
   pub opens : opening sheet header .refusal ≡ 0
-  pub taken : (n : ℕ) → n < length lines → refusalOf (termsOf (opened sheet header)) (ledgerAfter sheet header (take n lines)) (getD lines n []) ≡ 0
+  pub taken : (n : ℕ) → n < length lines →
+      (c : Content) × ShowsInRange (getD lines n []) c × Fits (termsOf (opened sheet header) .header) (ledgerAfter sheet header (take n lines)) c
 
 -- What is printed of lines, the first of them the header, under a sheet of factors, where the table of cells is asked for or not.
 pub data Outcome (asked : Bool) (sheet : List ℕ) : (lines : List (List ℕ)) (out : List ℕ) → Type 0 where
