@@ -24,16 +24,17 @@ from fractions import Fraction
 from pathlib import Path
 
 import line_cases
+import near_bounds
 import sheets
 from reference import book, cells, forms, house_index
 from reference.forms import AREAS
 from reference.house_index import DECEMBER, FIRST
-from reference.loan import is_fresh
+from reference.loan import credit_factor, is_fresh
 
 CELLS = "cells"  # the word with which the program prints the table too
 SHEET = "sheet"  # the word before the file of a sheet of credit factors
-LOAN_DISTANCE = Fraction(105, 100)  # of a loan's numbers from the exact ones, in cents
-PER_LOAN, BESIDES = 3, 3  # demand 3: the required amount exceeds the exact one by less than this
+LOAN_DISTANCE = Fraction(105, 100)  # of a loan's numbers from the exact ones, in cents (request L7)
+PER_LOAN, BESIDES = Fraction(3, 2), 3  # demand 3 with request L7: the required amount exceeds the exact one by less than this
 
 KEPT = b"(from 201512) (area other)"  # of a loan whose value stays as it is
 # A loan of next to nothing, more than 0: its total number can only be 1, its supplement is 0. Its score is fresh.
@@ -146,6 +147,20 @@ def _band_ends():
     """The lowest and the highest score of each band."""
     lowest = [300, *range(600, 781, 20)]
     return sorted(lowest + [score - 1 for score in lowest[1:]] + [900])
+
+
+def farthest_books():
+    """Books of loans whose two numbers are both almost a cent away: the required amount exceeds the exact one by almost 1.4 cents a loan.
+
+    With an asset that makes rest next to nothing it exceeds it by almost a cent and a fifth besides.
+    """
+    for first, months, score in ((150_000_000, 240, b"720 7"), (1_000_000, 12, b"580 0"), (30_000_000, 480, b"900 12")):
+        number, age = map(int, score.split())
+        of = Fraction(1), months, months, 1, credit_factor((number, age), False, 0, 0)
+        found = near_bounds.balances(first, of, *near_bounds.FARTHEST)
+        lines = _book_of([loan(balance, balance, score, months) for balance in itertools.islice(found, 40)])
+        yield lines
+        yield [*lines, b"(asset (amount 1) (factor 1))"]
 
 
 def _cell_books():
@@ -1175,7 +1190,7 @@ def fixed_results(run):
     """What came out of the fixed books."""
     source = random.Random(60)
     yield from given_results(run, FIXED)
-    yield from (whole_result(run, source, lines) for lines in _cell_books())
+    yield from (whole_result(run, source, lines) for lines in (*farthest_books(), *_cell_books()))
     yield from (whole_result(run, source, lines) for lines in _index_books())
     yield from (whole_result(run, source, lines) for lines in (*_table_books(), *_fresh_books()))
     yield from given_results(run, (_joined(source, lines) for lines in (*_index_inputs(), *_fresh_inputs())))

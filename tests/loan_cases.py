@@ -17,11 +17,12 @@ import subprocess
 from fractions import Fraction
 from math import ceil, isqrt
 
+import near_bounds
 import stored
 from reference import loan
 from reference.exponential import combination_bounds
 
-DISTANCE = Fraction(105, 100)
+DISTANCE = Fraction(105, 100)  # request L7: of a loan's numbers from the exact ones, in cents
 UNIT = 10**17
 P_MOST, Q_MOST = 10**18, 2 * 10**16
 BALANCE_MOST = 200_000_000
@@ -116,6 +117,12 @@ def _equal_fractions(source):
         lowest = Fraction(value, balance).as_integer_ratio()
         for over in (lowest, (value, balance), *((value * times, balance * times) for times in (2, 9_999, INDEX_MOST))):
             yield *over, balance, months, term, sup, m
+
+
+def _next_to_bounds(source):
+    """Loans whose exact amounts lie next to where a number more is allowed, or one less."""
+    for z, balance, months, term, sup, m in near_bounds.loans(source):
+        yield z.numerator, z.denominator, balance, months, term, sup, int(m * UNIT)
 
 
 def _m(source):
@@ -227,6 +234,7 @@ def stored_files():
     loans += [_nearly_paid(source) for _ in range(500)]
     loans += [_random(source) for _ in range(3000)]
     loans += [*_index_ends(), *_equal_fractions(source), *(_indexed(source) for _ in range(400))]
+    loans += _next_to_bounds(source)
     return stored.case_files([case(*values) for values in loans] + [factor_case(*values) for values in _factors()])
 
 

@@ -7,6 +7,7 @@ from fractions import Fraction as F
 
 import book_runs
 import line_cases
+import near_bounds
 import sheets
 from reference import book, cells, exponential, forms, house_index, loan, sheet
 
@@ -95,6 +96,73 @@ class Exponential(unittest.TestCase):
         self.assertEqual(exponential.combination_ceil([(F(1), far)]), 1)
         self.assertEqual(exponential.combination_ceil([(F(-1), far)]), 0)
         self.assertEqual(exponential.combination_floor([(F(-1), far)]), -1)
+
+
+class CloserCents(unittest.TestCase):
+    """Request L7: which whole numbers lie less than one and a twentieth cents from an exact amount, on their side."""
+
+    DISTANCE = F(105, 100)
+
+    def test_totals(self):
+        for amount, allowed in (
+            ("0", (0, 1)), ("0.0001", (1, 1)), ("0.5", (1, 1)), ("0.9499", (1, 1)), ("0.95", (1, 1)), ("0.9501", (1, 2)), ("1", (1, 2)),
+            ("-0.04", (0, 1)), ("-0.05", (0, 0)), ("-0.06", (0, 0)), ("-7.01", (-7, -6)), ("-7.05", (-7, -7)), ("-7.99", (-7, -7)),
+        ):
+            self.assertEqual(loan.allowed_total([(F(amount), F(0))], self.DISTANCE), allowed, amount)
+
+    def test_supplements(self):
+        for amount, allowed in (
+            ("0", (-1, 0)), ("0.0499", (-1, 0)), ("0.05", (0, 0)), ("0.0501", (0, 0)), ("0.9999", (0, 0)), ("1", (0, 1)), ("1.04", (0, 1)), ("1.06", (1, 1)),
+            ("-0.5", (-1, -1)), ("-0.95", (-1, -1)), ("-0.96", (-2, -1)), ("-7", (-8, -7)),
+        ):
+            self.assertEqual(loan.allowed_supplement([(F(amount), F(0))], self.DISTANCE), allowed, amount)
+        self.assertEqual(loan.allowed_supplement([], self.DISTANCE), (0, 0))
+
+    def test_exactly_a_bound_away(self):
+        """With an exponential: an amount that is just above or below the last one that allows a second number."""
+        small = (F(1, 10**30), F(3))
+        self.assertEqual(loan.allowed_total([(F("0.95"), F(0)), small], self.DISTANCE), (1, 2))
+        self.assertEqual(loan.allowed_total([(F("0.95"), F(0)), (-small[0], F(3))], self.DISTANCE), (1, 1))
+        self.assertEqual(loan.allowed_supplement([(F("0.05"), F(0)), small], self.DISTANCE), (0, 0))
+        self.assertEqual(loan.allowed_supplement([(F("0.05"), F(0)), (-small[0], F(3))], self.DISTANCE), (-1, 0))
+
+    @staticmethod
+    def _beyond(terms):
+        """How far an amount lies above the last whole number of cents."""
+        low, high = exponential.combination_bounds(terms)
+        return (low + high) / 2 % 1
+
+    def test_loans_next_to_bounds(self):
+        """The loans of the tests lie next to every bound, on both sides, with and without a supplement, above and below 0."""
+        met = set()
+        for z, balance, months, term, sup, m in near_bounds.loans(random.Random(3)):
+            total, supplement = (amount(z, balance, months, term, sup, m) for amount in (loan.total, loan.supplement))
+            numbers = [low <= self._beyond(total) <= high for low, high in near_bounds.TOTALS]
+            others = [low <= self._beyond(supplement) <= high for low, high in near_bounds.SUPPLEMENTS] if sup else []
+            self.assertTrue(any(numbers + others))
+            below = exponential.combination_sign(total) < 0
+            least, greatest = loan.allowed_total(total, self.DISTANCE)
+            for i in (i for i, there in enumerate(numbers) if there):
+                self.assertEqual(greatest - least, int(i >= 2))
+                met.add(("total", sup, i, below))
+            least, greatest = loan.allowed_supplement(supplement, self.DISTANCE)
+            for i in (i for i, there in enumerate(others) if there):
+                self.assertEqual(greatest - least, int(i >= 2))
+                met.add(("supplement", sup, i, below))
+        wanted = {(of, sup, i, below) for of, sup in (("total", 0), ("total", 1), ("supplement", 1)) for i in range(4) for below in (False, True)}
+        self.assertEqual(wanted - met, set())
+
+    def testfarthest_books(self):
+        """The loans of these books: the nearest whole numbers are almost a cent away."""
+        for lines in book_runs.farthest_books():
+            loans = [forms.read_feeding(line) for line in lines if line.startswith(b"(loan ")]
+            self.assertGreaterEqual(len(loans), 30)
+            found = book.run(b"\n".join(lines))
+            for form in loans:
+                balance, value, *others = found.loan_terms(form)
+                of = loan.scaled_value(value, balance), balance, *others
+                self.assertLess(self._beyond(loan.total(*of)), F(1, 100))
+                self.assertGreater(self._beyond(loan.supplement(*of)), F(99, 100))
 
 
 class Forms(unittest.TestCase):

@@ -23,15 +23,14 @@ use Rattle.book_model.specs.Accepted.{Accepted, refusalOf, takenUp, note
 use Rattle.book_model.specs.AdjustedValues.{AdjustedRatio, AdjustedValues}
 use Rattle.book_model.specs.Demand2.{Indexed, IsSet, IsReturn}
 use Rattle.book_model.specs.History.{History, fed, allFed, termsOf, acceptedOf, linesTaken}
-use Rattle.book_model.specs.HouseIndex.{Index, isIndexed, adjustmentOf, lacking, valuesIn}
+use Rattle.book_model.specs.HouseIndex.{isIndexed, adjustmentOf, valuesIn}
 use Rattle.book_model.specs.LineKinds.{ofMark}
 use Rattle.book_model.specs.Share.{numbersWith, loanNumbers}
 use Rattle.book_model.specs.Terms.{Basis, factorFor, loanInputs}
-use Rattle.book_model.proofs.Adjustments.{Settled, Extends, adjusted-alike, indexed-is, kept-is, loan-has}
+use Rattle.book_model.proofs.Adjustments.{Extends, adjusted-alike, indexed-is, kept-is, settled-line}
 use Rattle.book_model.proofs.Ledger.{values-stay, good-of}
 use Rattle.book_model.proofs.MarkRows.{HeldMark, a-mark, no-mark, held-mark}
-use Rattle.book_model.proofs.Notes.{mark-shown}
-use Rattle.book_model.proofs.SetValues.{is-set, is-indexed, values-set, index-content, loan-content}
+use Rattle.book_model.proofs.SetValues.{is-set, is-indexed, values-set, shown, index-content, loan-content}
 
 -- The value is that of the line taken.
 values : (past : History) (area month value : ℕ) → 1 ≤ value →
@@ -62,7 +61,7 @@ stays-fed past s r area month h = go (eqb (refusalOf (termsOf past) (acceptedOf 
     marked : (m : MarkLine) → lineContent (lineOf s) ≡ mark m → (back : Bool) → m .back ≡ back →
         valuesIn (pick back (takenUp a (m .name)) (noted a (m .name)) .kept) area month ≡ valuesIn (a .kept) area month
     marked m e true b =
-        absurd (r (m .name, subst (λ (x : Bool). ShowsInRange s (mark (record { back = x; name = m .name }))) b (mark-shown s m e)))
+        absurd (r (m .name, subst (λ (x : Bool). ShowsInRange s (mark (record { back = x; name = m .name }))) b (shown s (mark m) tt e)))
     marked m e false b = refl
 
     of-either : {c : Content} → HeldMark c → lineContent (lineOf s) ≡ c → refusalOf (termsOf past) a s ≡ 0 →
@@ -83,13 +82,6 @@ stays past [] r area month h = refl
 stays past (s ∷ lines) r area month h =
     let e = stays-fed past s (r s (List·Memᴰ·head refl)) area month h in
     stays (fed past s) lines (λ x m. r x (List·Memᴰ·tail m)) area month (omega (arith, e, h)) ∙ e
-
--- A loan taken has its values.
-settled-line : (by : Index) (kept : List (List ℕ)) → Settled by kept → (s : List ℕ) → List·Memᴰ s kept → (l : Loan) → lineContent (lineOf s) ≡ loan l →
-    lacking (adjustmentOf by l) ≡ false
-unfolding Settled
-settled-line by (r ∷ kept) h s (List·Memᴰ·head e) l c = loan-has by l (ap (λ (x : List ℕ). lineContent (lineOf x)) (sym e) ∙ c) (h .0)
-settled-line by (r ∷ kept) h s (List·Memᴰ·tail m) l c = settled-line by kept (h .1) s m l c
 
 -- The ratio that a loan is charged by
 adjusted : (value balance last own : ℕ) → 1 ≤ balance → 1 ≤ own →

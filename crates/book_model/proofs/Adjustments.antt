@@ -1,7 +1,7 @@
 -- What a loan's property value is adjusted by: its range, and when two indexes give the same. Assumes nothing.
 use mathlib.Core.Path.{_≡_, refl, sym, _∙_, ap}
 use mathlib.Core.Bool.{Bool, true, false, _||_, true≢false}
-use mathlib.Core.List.{List, [], _∷_}
+use mathlib.Core.List.{List, [], _∷_, List·Memᴰ, List·Memᴰ·head, List·Memᴰ·tail}
 use mathlib.Core.Logic.{_↔_}
 use Prim.Native.Nat.{ℕ, _*_, _≤_}
 use native.Mathlib.Nat.{mul-pos}
@@ -125,6 +125,13 @@ extended {values} {others} x l e =
 -- what a line's data wants, by its loan
 pub loan-has : (values : Index) {c : Content} (l : Loan) → c ≡ loan l → Has values c → lacking (adjustmentOf values l) ≡ false
 loan-has values l e h = ap (ofLoan (λ x. lacking (adjustmentOf values x)) false) (sym e) ∙ h
+
+-- a loan of a list has its values
+pub settled-line : (by : Index) (kept : List (List ℕ)) → Settled by kept → (s : List ℕ) → List·Memᴰ s kept → (l : Loan) → lineContent (lineOf s) ≡ loan l →
+    lacking (adjustmentOf by l) ≡ false
+unfolding Settled
+settled-line by (r ∷ kept) h s (List·Memᴰ·head e) l c = loan-has by l (ap (λ (x : List ℕ). lineContent (lineOf x)) (sym e) ∙ c) (h .0)
+settled-line by (r ∷ kept) h s (List·Memᴰ·tail m) l c = settled-line by kept (h .1) s m l c
 
 pub still-alike : {values others : Index} → Extends values others → {c : Content} → Has values c → Alike values others c
 still-alike {values} x h l e = extended x l (loan-has values l e h)

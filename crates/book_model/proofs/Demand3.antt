@@ -34,7 +34,7 @@ use Rattle.book_model.specs.Accepted.{withMark, accept}
 use Rattle.book_model.specs.Calls.{State, Answer, stateAt, emptyBook, opening, feeding, closingRefusal}
 use Rattle.book_model.specs.Calls.{closingWith, closedWith, reportSize, reportOf}
 use Rattle.book_model.specs.Demand3.{figuresFor, reportFor, afterLines, hundredthsPerLoan, allowance, Writes, LedgerTakes, adds, notes, returns, Closes}
-use Rattle.book_model.specs.Demand3.{Measured}
+use Rattle.book_model.specs.Demand3.{LoanNumbers, Measured}
 use Rattle.book_model.specs.Demand3.{SameTexts}
 use Rattle.book_model.specs.Demand3.{SameReports, Demand3}
 use Rattle.book_model.specs.Exact.{requirementBy, requirement}
@@ -44,6 +44,7 @@ use Rattle.book_model.specs.LineKinds.{ofMark, contentKind, sumBy}
 use Rattle.book_model.specs.Marks.{isAmong, markRefusal}
 use Rattle.book_model.specs.Share.{share}
 use Rattle.book_model.specs.Terms.{Terms, Basis, basisOf, termsFor}
+use Rattle.book_model.proofs.Adjustments.{Settled}
 use Rattle.book_model.proofs.Bounds.{Near}
 use Rattle.book_model.proofs.Closings.{untouched, writes, tells}
 use Rattle.book_model.proofs.Dependence.{requirement-determined}
@@ -51,12 +52,14 @@ use Rattle.book_model.proofs.ExactSums.{rest-sum, moved-sum, rounded-is
 use Rattle.book_model.proofs.Feeding.{opening-sound}
 use Rattle.book_model.proofs.IndexTables.{none-set}
 use Rattle.book_model.proofs.Ledger.{Good, GoodLedger, in-hundredths, ledger-of, good-of, taken-mark, accepts, leaves, names-length, named-at, name-at}
+use Rattle.book_model.proofs.LoanNumbers.{loan-numbers}
 use Rattle.book_model.proofs.LineSums.{sum-permuted as line-sum-permuted}
 use Rattle.book_model.proofs.MarkRows.{HeldMark, a-mark, no-mark, held-mark}
-use Rattle.book_model.proofs.Notes.{member, mark-content, mark-shown, noted-among}
+use Rattle.book_model.proofs.Notes.{member, mark-content, noted-among}
 use Rattle.book_model.proofs.Near.{ChargeableBasis, rates-chargeable}
 use Rattle.book_model.proofs.Ranged.{ranged-header}
 use Rattle.book_model.proofs.Required.{requiredFor, near, list-exponents}
+use Rattle.book_model.proofs.SetValues.{shown}
 use Rattle.book_model.proofs.Steps.{bookOf, stateOf, counts, no-notes, step}
 use Rattle.book_model.proofs.Tables.{no-cells}
 
@@ -128,7 +131,7 @@ module _ (t : Terms) (a : Accepted) (s : List ℕ) where
   unmarked-added e n = accepts t a s e ∙ go (held-mark (lineContent (lineOf s))) refl
     where
       go : {c : Content} → HeldMark c → lineContent (lineOf s) ≡ c → ofMark (withMark a) (added a s) c ≡ added a s
-      go (a-mark m) f = absurd (n m (mark-shown s m f))
+      go (a-mark m) f = absurd (n m (shown s (mark m) tt f))
       go (no-mark k) f = k Accepted (withMark a) (added a s)
 
   -- a mark or return, by its bytes
@@ -136,7 +139,7 @@ module _ (t : Terms) (a : Accepted) (s : List ℕ) where
   unfolding refusalFor contentKind
   shows-mark m e = (
     ap (λ (c : Content). refusalFor (basisOf t (a .kept)) (countsIn (a .kept)) (keptBy (a .notes)) (contentKind (lineRefusal (lineOf s)) c)) e,
-    mark-shown s m e,
+    shown s (mark m) tt e,
   )
 
   -- the mark that is taken
@@ -238,6 +241,12 @@ near-taken : (t : Terms) → RatesInRange (t .rates) → (kept : List (List ℕ)
     Eventually (λ x. Near (requirement t kept .value x) (figuresFor t kept .required) hundredthsPerLoan (countsIn kept .loans))
 near-taken t r kept h = rw (required-is t kept) at (near hundredthsPerLoan (omega arith) kept (taken-chargeable t r kept h) (h .settled))
 
+-- total and supplement are those of the sums
+loans-measured : (t : Terms) (kept : List (List ℕ)) → ChargeableBasis (basisOf t kept) → Settled (valuesIn kept) kept →
+    LoanNumbers (basisOf t kept) kept (figuresFor t kept)
+unfolding figuresFor
+loans-measured t kept u z = loan-numbers u kept z (figuresFor t kept) refl refl
+
 pub measured-of : (t : Terms) → RatesInRange (t .rates) → (kept : List (List ℕ)) → Good kept → Measured t kept
 unfolding reportFor requirementBy
 measured-of t r kept h =
@@ -258,6 +267,7 @@ measured-of t r kept h =
           (mapped (λ m n. (n .proper, (n .not-below, n .close))) (near-taken t r kept h));
       orders = some-allowed (requirement t kept .exponents) exponents;
       determined = requirement-determined u kept (h .settled);
+      loans = loans-measured t kept u (h .settled);
     }
 
 -- Order

@@ -13,7 +13,7 @@ use Rattle.loan_charge.proofs.Promise.{promise}
 use Rattle.line_forms.specs.declared.Content.{Content}
 use Rattle.line_forms.specs.Claims.{lineContent}
 use Rattle.line_forms.specs.Readings.{lineOf}
-use Rattle.book_model.specs.Exact.{exactShare, exactOf, exactRest, sumOver, exponentsOver, requirementBy}
+use Rattle.book_model.specs.Exact.{exactShare, exactOf, exactRest, sumOver, exponentsOver, totalBy, supplementBy, requirementBy}
 use Rattle.book_model.specs.Ranges.{Ranged}
 use Rattle.book_model.specs.Requirement.{exactHome, exactOper, exactRequired}
 use Rattle.book_model.specs.Terms.{Basis, loanInputs}
@@ -56,15 +56,14 @@ module _ {g : Basis} (u : ChargeableBasis g) where
       go (of-none k a b) r h = rw b nothing-depends
 
   -- sums over lines
-  totals-depend : (kept : List (List ℕ)) → Settled (g .index) kept → DependsOn (exponentsOver g kept) (λ x. sumOver (λ s. exactOf g s .total .value x) kept)
+  pub totals-depend : (kept : List (List ℕ)) → Settled (g .index) kept → Determined (totalBy g kept)
   unfolding sumOver exponentsOver Settled
   totals-depend [] h = nothing-depends
   totals-depend (s ∷ kept) h =
       depends-sum (depends-left (exponentsOver g kept) (total-depends (lineContent (lineOf s)) (ranged s) (h .0)))
       (depends-right (exactOf g s .total .exponents) (totals-depend kept (h .1)))
 
-  supplements-depend : (kept : List (List ℕ)) → Settled (g .index) kept →
-      DependsOn (exponentsOver g kept) (λ x. sumOver (λ s. exactOf g s .supplement .value x) kept)
+  pub supplements-depend : (kept : List (List ℕ)) → Settled (g .index) kept → Determined (supplementBy g kept)
   unfolding sumOver exponentsOver Settled
   supplements-depend [] h = nothing-depends
   supplements-depend (s ∷ kept) h =

@@ -16,6 +16,7 @@ pub mod FreshScores
 pub mod IndexTables
 pub mod Ledger
 pub mod LineSums
+pub mod LoanNumbers
 pub mod LoanTable
 pub mod MarkRows
 pub mod Openings

@@ -10,40 +10,19 @@ use lib.ListN.{length, getD}
 use borrow.Author.Tests.{ltb-true, ltb-false, lt-ltb, eqb-true, eqb-false, eq-eqb}
 use Rattle.exact.specs.Choice.{pick}
 use Rattle.line_forms.specs.declared.MarkLine.{MarkLine}
-use Rattle.line_forms.specs.declared.Content.{Content}
 use Rattle.line_forms.specs.declared.Content.the-variants.{Mark as mark}
-use Rattle.line_forms.specs.declared.Line.{Line}
-use Rattle.line_forms.specs.declared.Line.the-variants.{Loan as LoanLine, Policy as PolicyLine, Derivative as DerivativeLine, Asset as AssetLine}
-use Rattle.line_forms.specs.declared.Line.the-variants.{Amount as AmountLine, Index as IndexLine, Mark as MarkRead, Refusal}
 use Rattle.line_forms.specs.Claims.{ShowsInRange, lineContent}
 use Rattle.line_forms.specs.Readings.{lineOf}
 use Rattle.book_model.specs.Accepted.{Note, namesOf, noNote}
 use Rattle.book_model.specs.Demand2.{IsNoted}
-use Rattle.book_model.specs.LineKinds.{ofMark}
 use Rattle.book_model.specs.Marks.{placeAmong, isAmong}
 use Rattle.book_model.proofs.Ledger.{named-at, name-at, names-length}
-use Rattle.book_model.proofs.SetValues.{shows, read}
+use Rattle.book_model.proofs.SetValues.{read}
 
 -- Lines by their bytes
 
 pub mark-content : (s : List ℕ) (m : MarkLine) → ShowsInRange s (mark m) → lineContent (lineOf s) ≡ mark m
 mark-content s m h = ap lineContent (read s (mark m) tt h)
-
-pub mark-shown : (s : List ℕ) (m : MarkLine) → lineContent (lineOf s) ≡ mark m → ShowsInRange s (mark m)
-mark-shown s m e = go (lineOf s) refl e
-  where
-    not-mark : (c : Content) → ofMark (λ x. true) false c ≡ false → c ≡ mark m → ⊥
-    not-mark c z f = true≢false (sym (ap (ofMark (λ x. true) false) f) ∙ z)
-
-    go : (l : Line) → lineOf s ≡ l → lineContent l ≡ mark m → ShowsInRange s (mark m)
-    go (LoanLine l) f e = absurd (not-mark _ refl e)
-    go (PolicyLine p) f e = absurd (not-mark _ refl e)
-    go (DerivativeLine d) f e = absurd (not-mark _ refl e)
-    go (AssetLine a) f e = absurd (not-mark _ refl e)
-    go (AmountLine a) f e = absurd (not-mark _ refl e)
-    go (IndexLine v) f e = absurd (not-mark _ refl e)
-    go (MarkRead x) f e = subst (λ (y : MarkLine). ShowsInRange s (mark y)) (ap (ofMark (λ y. y) x) e) (shows s (mark x) tt f)
-    go (Refusal n) f e = absurd (not-mark _ refl e)
 
 -- Notes by their names
 

@@ -10,7 +10,8 @@ use borrow.Author.Tests.{eqb-true, eqb-false}
 use Rattle.line_forms.specs.declared.IndexValue.{IndexValue}
 use Rattle.line_forms.specs.declared.Loan.{Loan}
 use Rattle.line_forms.specs.declared.Content.{Content}
-use Rattle.line_forms.specs.declared.Content.the-variants.{Loan as loan, Index as index}
+use Rattle.line_forms.specs.declared.Content.the-variants.{Loan as loan, Policy as policy, Derivative as derivative, Asset as asset, Amount as amount}
+use Rattle.line_forms.specs.declared.Content.the-variants.{Index as index, Mark as mark}
 use Rattle.line_forms.specs.declared.Line.{Line}
 use Rattle.line_forms.specs.declared.Line.the-variants.{Loan as LoanLine, Policy as PolicyLine, Derivative as DerivativeLine, Asset as AssetLine}
 use Rattle.line_forms.specs.declared.Line.the-variants.{Amount as AmountLine, Index as IndexLine, Mark as MarkRead, Refusal}
@@ -19,7 +20,7 @@ use Rattle.line_forms.specs.Readings.{lineOf}
 use Rattle.line_forms.proofs.LineLaws.{line-accepted}
 use Rattle.book_model.specs.declared.Adjustment.{Adjustment}
 use Rattle.book_model.specs.Demand2.{IsSet, Indexed, ValuesSet, ValueMissing}
-use Rattle.book_model.specs.HouseIndex.{Index, isIndexed, adjustmentOf, lacking, ofIndex, valuesIn, indexLine}
+use Rattle.book_model.specs.HouseIndex.{Index, isIndexed, adjustmentOf, lacking, valuesIn}
 use Rattle.book_model.specs.Ranges.{IndexRanges, Ranged}
 use Rattle.book_model.proofs.Adjustments.{both-set, not-lacking, indexed-months, indexed-is, kept-is}
 use Rattle.book_model.proofs.Ledger.{set-line, line-sets}
@@ -35,22 +36,22 @@ module _ (s : List ℕ) where
   pub read : (c : Content) → AfterHeader c → ShowsInRange s c → lineOf s ≡ lineWith c
   read c a k = line-accepted s c a .1 (k .shows .writable, k .in-range, k .shows .bytes)
 
-  -- a line whose data is an index value
-  pub shows-index : (i : IndexValue) → lineContent (lineOf s) ≡ index i → ShowsInRange s (index i)
-  shows-index i e = go (lineOf s) refl e
+  -- a line that has the data c
+  pub shown : (c : Content) → AfterHeader c → lineContent (lineOf s) ≡ c → ShowsInRange s c
+  shown c a e = go (lineOf s) refl e
     where
-      not-index : (c : Content) → indexLine c ≡ 0 → c ≡ index i → ⊥
-      not-index c z f = omega (arith, sym z ∙ ap indexLine f)
+      read-as : (x : Content) → AfterHeader x → lineOf s ≡ lineWith x → x ≡ c → ShowsInRange s c
+      read-as x b f e = subst (ShowsInRange s) e (shows x b f)
 
-      go : (l : Line) → lineOf s ≡ l → lineContent l ≡ index i → ShowsInRange s (index i)
-      go (LoanLine l) f e = absurd (not-index _ refl e)
-      go (PolicyLine p) f e = absurd (not-index _ refl e)
-      go (DerivativeLine d) f e = absurd (not-index _ refl e)
-      go (AssetLine a) f e = absurd (not-index _ refl e)
-      go (AmountLine a) f e = absurd (not-index _ refl e)
-      go (IndexLine v) f e = subst (λ (x : IndexValue). ShowsInRange s (index x)) (ap (ofIndex (λ x. x) v) e) (shows (index v) tt f)
-      go (MarkRead m) f e = absurd (not-index _ refl e)
-      go (Refusal n) f e = absurd (not-index _ refl e)
+      go : (l : Line) → lineOf s ≡ l → lineContent l ≡ c → ShowsInRange s c
+      go (LoanLine l) f e = read-as (loan l) tt f e
+      go (PolicyLine p) f e = read-as (policy p) tt f e
+      go (DerivativeLine d) f e = read-as (derivative d) tt f e
+      go (AssetLine a) f e = read-as (asset a) tt f e
+      go (AmountLine a) f e = read-as (amount a) tt f e
+      go (IndexLine v) f e = read-as (index v) tt f e
+      go (MarkRead m) f e = read-as (mark m) tt f e
+      go (Refusal n) f e = absurd (subst AfterHeader (sym e) a)
 
   pub index-content : (i : IndexValue) → ShowsInRange s (index i) → lineContent (lineOf s) ≡ index i
   index-content i h = ap lineContent (read (index i) tt h)
@@ -77,7 +78,7 @@ is-set kept area month = (to, from)
           line = s;
           value = i .value;
           taken = m;
-          shown = subst (λ (v : IndexValue). ShowsInRange s (index v)) same (shows-index s i c);
+          shown = subst (λ (v : IndexValue). ShowsInRange s (index v)) same (shown s (index i) tt c);
         }
 
 pub not-set : (kept : List (List ℕ)) (area month : ℕ) → (valuesIn kept area month ≡ 0) ↔ (IsSet kept area month → ⊥)

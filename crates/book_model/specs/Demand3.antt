@@ -4,15 +4,20 @@ use Prim.Native.Nat.{ℕ, _+_, _*_}
 use mathlib.Core.Path.{_≡_}
 use mathlib.Core.Bool.{true, false}
 use mathlib.Core.Logic.{_↔_}
-use mathlib.Core.List.{List, [], _∷_, _++_, List·Permᴰ}
+use mathlib.Core.List.{List, [], _∷_, _++_, List·Memᴰ, List·Permᴰ}
 use lib.ListN.{length, take}
-use Rattle.exact.specs.Fraction.{Fraction, quotient, whole, ceiling, _⊕_, _≼_, _≺_}
+use Rattle.exact.specs.Fraction.{Fraction, quotient, whole, ceiling, _⊕_, _⊗_, _≼_, _≺_}
 use Rattle.exact.specs.Quantity.{Determined, AtMost, ExceedsByLess, AtEveryOrder, SomeAllowed}
 use Rattle.exact.specs.Text.{text}
-use Rattle.line_forms.specs.declared.Content.the-variants.{Mark as mark}
-use Rattle.line_forms.specs.Claims.{ShowsInRange}
+use Rattle.loan_charge.specs.declared.charge.LoanCharge.{LoanCharge}
+use Rattle.loan_charge.specs.Promise.{signedCents, tolerance, Promised}
+use Rattle.line_forms.specs.declared.Loan.{Loan}
+use Rattle.line_forms.specs.declared.Content.the-variants.{Loan as loan, Mark as mark}
+use Rattle.line_forms.specs.Claims.{ShowsInRange, lineContent}
+use Rattle.line_forms.specs.Readings.{lineOf}
 use Rattle.figures.specs.declared.Figures.{Figures}
 use Rattle.figures.specs.Figures.{figuresFrom}
+use Rattle.figures.specs.Sums.{zeroSigned}
 use Rattle.report.specs.Decimal.{digits, valueOf}
 use Rattle.report.specs.Line.{line, onto}
 use Rattle.book_report.specs.Report.{reportText}
@@ -20,9 +25,10 @@ use Rattle.book_model.specs.declared.Book.{Book}
 use Rattle.book_model.specs.declared.Closed.{Closed}
 use Rattle.book_model.specs.Accepted.{Note, Accepted, countsIn, refusalOf, accept}
 use Rattle.book_model.specs.Calls.{State, opening, feeding, closing, closed, closingRefusal, reportSize}
-use Rattle.book_model.specs.Exact.{exactRest, exactMoved, requirement}
+use Rattle.book_model.specs.Exact.{loanTotal, loanSupplement, exactRest, exactMoved, totalBy, supplementBy, requirement}
 use Rattle.book_model.specs.History.{opened, allFed, termsOf, acceptedOf, linesTaken, sumsOf}
-use Rattle.book_model.specs.Terms.{Terms, basisOf}
+use Rattle.book_model.specs.Share.{share}
+use Rattle.book_model.specs.Terms.{Terms, Basis, basisOf}
 
 -- The report computed from the header and the lines taken: the exact rest and moved are rounded up once.
 unfoldable pub figuresFor : Terms → List (List ℕ) → Figures
@@ -37,9 +43,9 @@ unfoldable pub afterLines : State → List (List ℕ) → State
 afterLines s [] = s
 afterLines s (line ∷ lines) = afterLines (feeding s line .state) lines
 
--- 3 cents, in hundredths of a cent: for each loan, and once
+-- In hundredths of a cent: one and a half cents for each loan (02, L7; 00 asked for 3), and 3 cents once.
 abbrev pub hundredthsPerLoan : ℕ
-hundredthsPerLoan = 300
+hundredthsPerLoan = 150
 
 abbrev pub hundredthsOnce : ℕ
 hundredthsOnce = 300
@@ -76,7 +82,27 @@ pub record Closes (t : Terms) (a : Accepted) (s : State) : Type 0 where
   -- Closing writes the report of the lines taken.
   pub report : Writes reportSize t a (reportFor t (a .kept)) (closing (s .book)) (closed (s .book))
 
--- What holds of the required amount of the lines taken.
+-- the two numbers that a line charged by g adds to total and supplement
+abbrev pub twoNumbers : Basis → List ℕ → LoanCharge
+twoNumbers g s = record { total = share g (lineContent (lineOf s)) .total; supplement = share g (lineContent (lineOf s)) .supplement }
+
+-- What holds of the report's total and supplement, sums over the lines taken (sumsOf), which are charged by g.
+pub record LoanNumbers (g : Basis) (kept : List (List ℕ)) (f : Figures) : Type 0 where
+  -- Each loan adds two numbers, the one never below its exact base plus supplement, the other never above its exact supplement, and less than
+  -- one and a twentieth cents from them (02, L7);
+  pub each : (s : List ℕ) (l : Loan) → List·Memᴰ s kept → ShowsInRange s (loan l) → Promised (twoNumbers g s) (loanTotal g l) (loanSupplement g l)
+  -- any other line adds nothing.
+  pub others : (s : List ℕ) → List·Memᴰ s kept → ((l : Loan) → ShowsInRange s (loan l) → ⊥) →
+      twoNumbers g s ≡ record { total = zeroSigned; supplement = zeroSigned }
+  -- So total is never below the exact one and supplement never above it, and each at most one and a twentieth cents a loan from it.
+  pub total : AtEveryOrder (totalBy g kept)
+      (λ v. (v ≼ signedCents (f .total)) × (signedCents (f .total) ≼ v ⊕ whole (countsIn kept .loans) ⊗ tolerance))
+  pub supplement : AtEveryOrder (supplementBy g kept)
+      (λ v. (signedCents (f .supplement) ≼ v) × (v ≼ signedCents (f .supplement) ⊕ whole (countsIn kept .loans) ⊗ tolerance))
+  pub total-determined : Determined (totalBy g kept)
+  pub supplement-determined : Determined (supplementBy g kept)
+
+-- What holds of the loans' numbers and of the required amount of the lines taken.
 pub record Measured (t : Terms) (kept : List (List ℕ)) : Type 0 where
   -- the number of the line `(required R)`, the eighth
   pub required : ℕ
@@ -84,7 +110,7 @@ pub record Measured (t : Terms) (kept : List (List ℕ)) : Type 0 where
   pub after : List ℕ
   pub line-eight : reportFor t kept ≡ before ++ line (text "required") (digits required ∷ []) ++ after
   pub read-back : valueOf (digits required) ≡ required
-  -- never below the exact requirement, and above it by less than 3 cents for each loan taken plus 3 cents
+  -- never below the exact requirement, and above it by less than one and a half cents for each loan taken plus 3 cents (02, L7)
   pub not-below : AtMost (requirement t kept) (whole required)
   pub close : ExceedsByLess (requirement t kept) (allowance (countsIn kept .loans)) (whole required)
   -- both sides by one value in each bracket
@@ -92,6 +118,8 @@ pub record Measured (t : Terms) (kept : List (List ℕ)) : Type 0 where
   -- some order is allowed, and no exponent of the requirement is left out of its list
   pub orders : SomeAllowed (requirement t kept .exponents)
   pub determined : Determined (requirement t kept)
+  -- and total and supplement, the second and third line
+  pub loans : LoanNumbers (basisOf t kept) kept (figuresFor t kept)
 
 -- Two closings that write: lengths and bytes are the same, whatever the buffers' sizes and contents.
 abbrev pub SameTexts : (answer : ℕ → Closed) (left : List ℕ → List ℕ) (other : ℕ → Closed) (left-other : List ℕ → List ℕ) → Type 0

@@ -97,15 +97,18 @@ unfoldable pub exponentsOver : Basis → List (List ℕ) → List Fraction
 exponentsOver g [] = []
 exponentsOver g (s ∷ kept) = exactOf g s .total .exponents ++ exponentsOver g kept
 
--- the exact requirement of lines that are charged by g
+-- the exact total and supplement of lines that are charged by g
+abbrev pub totalBy : Basis → List (List ℕ) → Quantity
+totalBy g kept = record { exponents = exponentsOver g kept; value = λ x. sumOver (λ s. exactOf g s .total .value x) kept }
+
+abbrev pub supplementBy : Basis → List (List ℕ) → Quantity
+supplementBy g kept = record { exponents = exponentsOver g kept; value = λ x. sumOver (λ s. exactOf g s .supplement .value x) kept }
+
+-- and their exact requirement
 unfoldable pub requirementBy : Basis → List (List ℕ) → Quantity
 requirementBy g kept = record {
   exponents = exponentsOver g kept;
-  value = λ x. exactRequired
-      (sumOver (λ s. exactOf g s .total .value x) kept)
-      (sumOver (λ s. exactOf g s .supplement .value x) kept)
-      (exactRest g kept)
-      (g .terms .header .held);
+  value = λ x. exactRequired (totalBy g kept .value x) (supplementBy g kept .value x) (exactRest g kept) (g .terms .header .held);
 }
 
 -- the exact requirement of a book's terms and its lines: each property value by the index values that are among them

@@ -55,8 +55,9 @@ pub data Outcome (asked : Bool) (sheet : List ℕ) : (lines : List (List ℕ)) (
       CountsShort (termsOf (opened sheet header) .header) (countsIn (standing sheet header lines)) →
       Outcome asked sheet (header ∷ lines) (refusalLine 6 (2 + length lines))
   -- All lines are taken and as many loans of each sort stand as the header counts: the report of the lines still standing, whose required amount is
-  -- never below their exact requirement and less than the allowance above it; and after it, where that is asked for, the 60 lines of the
-  -- table, whose counts and charges sum to the report's loans and total.
+  -- never below their exact requirement and less than the allowance above it, and whose total and supplement add each loan's two numbers, as
+  -- near the exact ones as 02, L7 asks; and after it, where that is asked for, the 60 lines of the table, whose counts and charges sum to the
+  -- report's loans and total.
   report : (header : List ℕ) (lines : List (List ℕ)) → AllTaken sheet header lines →
       CountsReached (termsOf (opened sheet header) .header) (countsIn (standing sheet header lines)) →
       Measured (termsOf (opened sheet header)) (standing sheet header lines) → CellSums (termsOf (opened sheet header)) (standing sheet header lines) →

@@ -1,4 +1,4 @@
--- Demands 1 to 3 of the calls `open`, `open_sheet`, `feed`, `feed_with`, `close` and `close_cells` themselves, and requests L1 and L3 to L6.
+-- Demands 1 to 3 of the calls `open`, `open_sheet`, `feed`, `feed_with`, `close` and `close_cells` themselves, and requests L1 and L3 to L7.
 -- Proved in proofs/Demands.antt.
 use mathlib.Core.Path.{_≡_}
 use mathlib.Core.List.{List, [], _∷_, _++_, List·Memᴰ, List·Permᴰ}
@@ -67,7 +67,8 @@ pub record CallsDemand3 : Type 0 where
   -- A closing that is not refused writes the report of the lines taken from the buffer's start, and tells its length.
   pub writes : {h : History} {s : State} → Given h s → {buffer after : List ℕ} {r : Closed} → CloseCall (s .book) buffer r after → r .refusal ≡ 0 →
       (after ≡ onto buffer (reportFor (termsOf h) (linesTaken h))) × (r .length ≡ length (reportFor (termsOf h) (linesTaken h)))
-  -- Its required amount is never below the exact requirement, and less than the allowance above it.
+  -- Its required amount is never below the exact requirement, and less than the allowance above it; total, supplement and each loan's two
+  -- numbers are on their sides of the exact ones and as near as 02, L7 asks.
   pub measured : {h : History} {s : State} → Given h s → Measured (termsOf h) (linesTaken h)
   -- Two states under equal terms with the same lines taken, each as often, in whatever order: the bytes written are the same.
   pub alike : {h k : History} {s u : State} → Given h s → Given k u → termsOf h ≡ termsOf k → List·Permᴰ (linesTaken h) (linesTaken k) →

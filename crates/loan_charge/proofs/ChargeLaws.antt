@@ -350,39 +350,25 @@ module _ (l : LoanInputs) (c : Chargeable l) where
   unfolding supplementExponents
   supplement-exponents = either-exponents (l .supplement) all-exponents no-exponents
 
-  module _ (g : Fraction) (proper : Proper g) (wide : tolerance ≼ g) where
-    wider-total : {r : Signed} {v : Fraction} → Proper v → signedCents r ≺ v ⊕ tolerance → signedCents r ≺ v ⊕ g
-    wider-total {v = v} pv h =
-        Fractions.below-at-most (Fractions.proper-sum pv (record { positive = omega arith })) (Fractions.proper-sum pv proper) h
-        (Fractions.at-most-sum (Fractions.at-most-refl v) wide)
-
-    wider-supplement : {r : Signed} {v : Fraction} → Proper v → v ⊖ tolerance ≺ signedCents r → v ⊖ g ≺ signedCents r
-    wider-supplement {v = v} pv h =
-        Fractions.at-most-below (Fractions.proper-sum pv (Fractions.proper-negated proper)) (Fractions.proper-sum pv (record { positive = omega arith }))
-        (Fractions.at-most-sum (Fractions.at-most-refl v) (Fractions.at-most-negated wide)) h
-
-    -- document 01's statements
-    pub promised : Promised (chargeOf l) (totalQuantity l) (supplementQuantity l) g
-    promised =
-        let law = charge-near l c in
-        let r : LoanCharge = chargeOf l in
-        record {
-          total-determined = total-determined l c;
-          total-at-least = at-every-order (totalQuantity l) (λ v. v ≼ signedCents (r .total)) total-exponents
-              (mapped (λ k n. (n .total-proper, n .total-at-least)) law);
-          total-near =
-              at-every-order (totalQuantity l) (λ v. signedCents (r .total) ≺ v ⊕ g) total-exponents
-              (mapped (λ k n. (n .total-proper, wider-total (n .total-proper) (n .total-near))) law);
-          total-orders = some-allowed (totalExponents l) total-exponents;
-          supplement-determined = supplement-determined l c;
-          supplement-at-most =
-              at-every-order (supplementQuantity l) (λ v. signedCents (r .supplement) ≼ v) supplement-exponents
-              (mapped (λ k n. (n .supplement-proper, n .supplement-at-most)) law);
-          supplement-near =
-              at-every-order (supplementQuantity l) (λ v. v ⊖ g ≺ signedCents (r .supplement)) supplement-exponents
-              (mapped (λ k n. (n .supplement-proper, wider-supplement (n .supplement-proper) (n .supplement-near))) law);
-          supplement-orders = some-allowed (supplementExponents l) supplement-exponents;
-        }
+  -- document 01's statements, with the distance of 02, L7
+  pub promised : Promised (chargeOf l) (totalQuantity l) (supplementQuantity l)
+  promised =
+      let law = charge-near l c in
+      let r : LoanCharge = chargeOf l in
+      record {
+        total-determined = total-determined l c;
+        total-at-least = at-every-order (totalQuantity l) (λ v. v ≼ signedCents (r .total)) total-exponents
+            (mapped (λ k n. (n .total-proper, n .total-at-least)) law);
+        total-near = at-every-order (totalQuantity l) (λ v. signedCents (r .total) ≺ v ⊕ tolerance) total-exponents
+            (mapped (λ k n. (n .total-proper, n .total-near)) law);
+        total-orders = some-allowed (totalExponents l) total-exponents;
+        supplement-determined = supplement-determined l c;
+        supplement-at-most = at-every-order (supplementQuantity l) (λ v. signedCents (r .supplement) ≼ v) supplement-exponents
+            (mapped (λ k n. (n .supplement-proper, n .supplement-at-most)) law);
+        supplement-near = at-every-order (supplementQuantity l) (λ v. v ⊖ tolerance ≺ signedCents (r .supplement)) supplement-exponents
+            (mapped (λ k n. (n .supplement-proper, n .supplement-near)) law);
+        supplement-orders = some-allowed (supplementExponents l) supplement-exponents;
+      }
 
 -- Both numbers are small.
 

@@ -1,15 +1,11 @@
 -- What the layer promises, from its laws. Assumes nothing.
-use native.Mathlib.Omega.{arith}
-use Rattle.exact.specs.Fraction.{whole}
-use Rattle.exact.proofs.Fractions
-use Rattle.loan_charge.specs.Promise.{tolerance, Promise}
+use Rattle.loan_charge.specs.Promise.{Promise}
 use Rattle.loan_charge.proofs.ChargeLaws.{charge-near, promised, charge-range, no-supplement}
 use Rattle.loan_charge.proofs.CreditLaws.{built-in, in-range}
 
 pub promise : Promise
 promise = record {
-  close = λ l c. promised l c tolerance (record { positive = omega arith }) (Fractions.at-most-refl tolerance);
-  document-01 = λ l c. promised l c (whole 2) (record { positive = omega arith }) (record { crossed = omega arith });
+  close = λ l c. promised l c;
   near = λ l c. charge-near l c;
   total-range = λ l c. charge-range l c .0;
   supplement-range = λ l c. charge-range l c .1;

@@ -1,9 +1,9 @@
--- What a loan's two numbers promise: document 01, "The loan charge", and closer. Proved in proofs/Promise.antt.
+-- What a loan's two numbers promise: document 01, "The loan charge", with the distance of 02, L7. Proved in proofs/Promise.antt.
 use Prim.Native.Nat.{ℕ, _*_, _^_, _≤_, min}
 use mathlib.Core.Path.{_≡_}
 use mathlib.Core.Bool.{Bool, false}
 use mathlib.Core.List.{List}
-use Rattle.exact.specs.Fraction.{Fraction, Proper, quotient, whole, _⊕_, _⊖_, _≼_, _≺_}
+use Rattle.exact.specs.Fraction.{Fraction, Proper, quotient, _⊕_, _⊖_, _≼_, _≺_}
 use Rattle.exact.specs.Quantity.{Quantity, Determined, AtMost, ExceedsByLess, NeverAbove, LessBelow, SomeAllowed, Eventually}
 use Rattle.fixed_point.specs.declared.Signed.{Signed}
 use Rattle.loan_charge.specs.declared.LoanInputs.{LoanInputs}
@@ -17,7 +17,7 @@ use Rattle.loan_charge.specs.CreditFactor.{builtInRates, creditFactor, F
 abbrev pub signedCents : Signed → Fraction
 signedCents x = record { plus = x .plus; minus = x .minus; over = 1 }
 
--- 1.05 cents; document 01 asks for 2
+-- 02, L7: one and a twentieth cents (01: 2 cents)
 abbrev pub tolerance : Fraction
 tolerance = quotient 105 100
 
@@ -31,15 +31,15 @@ pub record NearExact (charge : LoanCharge) (total supplement : Fraction) : Type 
   pub supplement-at-most : signedCents (charge .supplement) ≼ supplement
   pub supplement-near : supplement ⊖ tolerance ≺ signedCents (charge .supplement)
 
--- The same in document 01's words, for every order allowed, with g for the tolerance; some order is allowed, and no exponent is left out.
-pub record Promised (charge : LoanCharge) (total supplement : Quantity) (g : Fraction) : Type 0 where
+-- The same in document 01's words, for every order allowed; some order is allowed, and no exponent is left out.
+pub record Promised (charge : LoanCharge) (total supplement : Quantity) : Type 0 where
   pub total-determined : Determined total
   pub total-at-least : AtMost total (signedCents (charge .total))
-  pub total-near : ExceedsByLess total g (signedCents (charge .total))
+  pub total-near : ExceedsByLess total tolerance (signedCents (charge .total))
   pub total-orders : SomeAllowed (total .exponents)
   pub supplement-determined : Determined supplement
   pub supplement-at-most : NeverAbove supplement (signedCents (charge .supplement))
-  pub supplement-near : LessBelow supplement g (signedCents (charge .supplement))
+  pub supplement-near : LessBelow supplement tolerance (signedCents (charge .supplement))
   pub supplement-orders : SomeAllowed (supplement .exponents)
 
 -- a number of cents from -100,000 to 300,000,000; plus or minus is 0
@@ -50,9 +50,8 @@ pub record InRange (x : Signed) : Type 0 where
 
 -- For every loan that can be charged.
 pub record Promise : Type 0 where
-  -- both numbers on their sides, less than 1.05 cents from the exact ones; document 01's 2 cents follow
-  pub close : (l : LoanInputs) → Chargeable l → Promised (chargeOf l) (totalQuantity l) (supplementQuantity l) tolerance
-  pub document-01 : (l : LoanInputs) → Chargeable l → Promised (chargeOf l) (totalQuantity l) (supplementQuantity l) (whole 2)
+  -- both numbers on their sides, less than one and a twentieth cents from the exact ones
+  pub close : (l : LoanInputs) → Chargeable l → Promised (chargeOf l) (totalQuantity l) (supplementQuantity l)
   -- the same with every exp(-y) taken as 1 / E(m), for all m from some m on: sums over many loans rest on it
   pub near : (l : LoanInputs) → Chargeable l → Eventually (λ exp. NearExact (chargeOf l) (exactTotal l exp) (exactSupplement l exp))
   pub total-range : (l : LoanInputs) → Chargeable l → InRange (chargeOf l .total)
