@@ -32,14 +32,14 @@ SIZES = {kind: (0, least - 1, least, least + 1, BUFFERS[kind]) for kind, least i
 
 def _certain_report(found):
     """The report of a book whose loans have only one allowed number each."""
-    total, greatest, supplement, greatest_supplement = found.sum_bounds(book_runs.LOAN_DISTANCE)
+    total, greatest, supplement, greatest_supplement = found.sum_bounds()
     assert (total, supplement) == (greatest, greatest_supplement)
     return found.report(total, supplement)
 
 
 def _certain_table(found):
     """The table of such a book."""
-    least, greatest = zip(*cells.charge_bounds(found, book_runs.LOAN_DISTANCE))
+    least, greatest = zip(*cells.charge_bounds(found))
     assert least == greatest
     return cells.text(found, least)
 
@@ -99,7 +99,7 @@ def _is_certain(line, header, *lent, values=()):
         opened = book.open_book(header, sheet)
         refused = [opened.feed(each) for each in (*values, line)]
         assert not any(refused)
-        bounds = opened.sum_bounds(book_runs.LOAN_DISTANCE)
+        bounds = opened.sum_bounds()
         if bounds[::2] != bounds[1::2]:
             return False
     return True

@@ -33,7 +33,6 @@ from reference.loan import credit_factor, is_fresh
 
 CELLS = "cells"  # the word with which the program prints the table too
 SHEET = "sheet"  # the word before the file of a sheet of credit factors
-LOAN_DISTANCE = Fraction(105, 100)  # of a loan's numbers from the exact ones, in cents (request L7)
 PER_LOAN, BESIDES = Fraction(3, 2), 3  # demand 3 with request L7: the required amount exceeds the exact one by less than this
 
 KEPT = b"(from 201512) (area other)"  # of a loan whose value stays as it is
@@ -911,7 +910,7 @@ def problem(found, printed):
     expected = found.report(total, supplement)
     if printed != expected:
         return f"expected {expected!r}"
-    least, greatest, least_supplement, greatest_supplement = found.sum_bounds(LOAN_DISTANCE)
+    least, greatest, least_supplement, greatest_supplement = found.sum_bounds()
     if not least <= total <= greatest:
         return f"total not in {least} to {greatest}"
     if not least_supplement <= supplement <= greatest_supplement:
@@ -937,7 +936,7 @@ def table_problem(found, report, table):
         pairs = itertools.zip_longest(table.split(b"\n"), expected.split(b"\n"))
         line, right = next(pair for pair in pairs if pair[0] != pair[1])
         return f"the table has {line!r}, expected {right!r}"
-    for where, charge, (least, greatest) in zip(cells.PLACES, charges, cells.charge_bounds(found, LOAN_DISTANCE)):
+    for where, charge, (least, greatest) in zip(cells.PLACES, charges, cells.charge_bounds(found)):
         if not least <= charge <= greatest:
             return f"charge {charge} of cell {where} not in {least} to {greatest}"
     return None

@@ -22,10 +22,9 @@ import stored
 from reference import loan
 from reference.exponential import combination_bounds
 
-DISTANCE = Fraction(105, 100)  # request L7: of a loan's numbers from the exact ones, in cents
 UNIT = 10**17
 P_MOST, Q_MOST = 10**18, 2 * 10**16
-BALANCE_MOST = 200_000_000
+BALANCE_MOST = near_bounds.BALANCE_MOST
 VALUE_MOST, INDEX_MOST = 10**10, 10**6
 MONTHS_MOST = 480
 FACTORS = {f for _, row in loan.CREDIT_BANDS for f in row} | {"1.3", "3.0", "0.01"}
@@ -52,7 +51,7 @@ def exact(p, q, balance, months, term, sup, m):
 def allowed(values):
     """The least and the greatest allowed total number, and supplement number."""
     total, supplement = exact(*values)
-    return loan.allowed_total(total, DISTANCE) + loan.allowed_supplement(supplement, DISTANCE)
+    return loan.allowed_total(total) + loan.allowed_supplement(supplement)
 
 
 def case(*values, ranges=None):

@@ -16,9 +16,10 @@ TRIES = 400_000
 SCALE = 10**24  # parts of a cent
 NEXT = Fraction(1, 10_000)  # so near to a bound, in cents
 
-# How far an amount lies above the last whole number of cents.
+# How far an amount lies above the last whole number of cents; from SECOND on a second total is allowed.
 ANY = (Fraction(-1), Fraction(1))
-TOTALS = [(low, low + NEXT) for low in (Fraction(0), Fraction(19, 20) - NEXT, Fraction(19, 20), 1 - NEXT)]
+SECOND = 2 - loan.DISTANCE
+TOTALS = [(low, low + NEXT) for low in (Fraction(0), SECOND - NEXT, SECOND, 1 - NEXT)]
 SUPPLEMENTS = [(1 - high, 1 - low) for low, high in TOTALS]
 # Both numbers almost a cent away: the total just above a whole number, the supplement just below one.
 FARTHEST = (Fraction(0), Fraction(1, 100)), (Fraction(99, 100), Fraction(1))

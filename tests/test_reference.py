@@ -101,30 +101,28 @@ class Exponential(unittest.TestCase):
 class CloserCents(unittest.TestCase):
     """Request L7: which whole numbers lie less than one and a twentieth cents from an exact amount, on their side."""
 
-    DISTANCE = F(105, 100)
-
     def test_totals(self):
         for amount, allowed in (
             ("0", (0, 1)), ("0.0001", (1, 1)), ("0.5", (1, 1)), ("0.9499", (1, 1)), ("0.95", (1, 1)), ("0.9501", (1, 2)), ("1", (1, 2)),
             ("-0.04", (0, 1)), ("-0.05", (0, 0)), ("-0.06", (0, 0)), ("-7.01", (-7, -6)), ("-7.05", (-7, -7)), ("-7.99", (-7, -7)),
         ):
-            self.assertEqual(loan.allowed_total([(F(amount), F(0))], self.DISTANCE), allowed, amount)
+            self.assertEqual(loan.allowed_total([(F(amount), F(0))]), allowed, amount)
 
     def test_supplements(self):
         for amount, allowed in (
             ("0", (-1, 0)), ("0.0499", (-1, 0)), ("0.05", (0, 0)), ("0.0501", (0, 0)), ("0.9999", (0, 0)), ("1", (0, 1)), ("1.04", (0, 1)), ("1.06", (1, 1)),
             ("-0.5", (-1, -1)), ("-0.95", (-1, -1)), ("-0.96", (-2, -1)), ("-7", (-8, -7)),
         ):
-            self.assertEqual(loan.allowed_supplement([(F(amount), F(0))], self.DISTANCE), allowed, amount)
-        self.assertEqual(loan.allowed_supplement([], self.DISTANCE), (0, 0))
+            self.assertEqual(loan.allowed_supplement([(F(amount), F(0))]), allowed, amount)
+        self.assertEqual(loan.allowed_supplement([]), (0, 0))
 
     def test_exactly_a_bound_away(self):
         """With an exponential: an amount that is just above or below the last one that allows a second number."""
         small = (F(1, 10**30), F(3))
-        self.assertEqual(loan.allowed_total([(F("0.95"), F(0)), small], self.DISTANCE), (1, 2))
-        self.assertEqual(loan.allowed_total([(F("0.95"), F(0)), (-small[0], F(3))], self.DISTANCE), (1, 1))
-        self.assertEqual(loan.allowed_supplement([(F("0.05"), F(0)), small], self.DISTANCE), (0, 0))
-        self.assertEqual(loan.allowed_supplement([(F("0.05"), F(0)), (-small[0], F(3))], self.DISTANCE), (-1, 0))
+        self.assertEqual(loan.allowed_total([(F("0.95"), F(0)), small]), (1, 2))
+        self.assertEqual(loan.allowed_total([(F("0.95"), F(0)), (-small[0], F(3))]), (1, 1))
+        self.assertEqual(loan.allowed_supplement([(F("0.05"), F(0)), small]), (0, 0))
+        self.assertEqual(loan.allowed_supplement([(F("0.05"), F(0)), (-small[0], F(3))]), (-1, 0))
 
     @staticmethod
     def _beyond(terms):
@@ -141,18 +139,18 @@ class CloserCents(unittest.TestCase):
             others = [low <= self._beyond(supplement) <= high for low, high in near_bounds.SUPPLEMENTS] if sup else []
             self.assertTrue(any(numbers + others))
             below = exponential.combination_sign(total) < 0
-            least, greatest = loan.allowed_total(total, self.DISTANCE)
+            least, greatest = loan.allowed_total(total)
             for i in (i for i, there in enumerate(numbers) if there):
                 self.assertEqual(greatest - least, int(i >= 2))
                 met.add(("total", sup, i, below))
-            least, greatest = loan.allowed_supplement(supplement, self.DISTANCE)
+            least, greatest = loan.allowed_supplement(supplement)
             for i in (i for i, there in enumerate(others) if there):
                 self.assertEqual(greatest - least, int(i >= 2))
                 met.add(("supplement", sup, i, below))
         wanted = {(of, sup, i, below) for of, sup in (("total", 0), ("total", 1), ("supplement", 1)) for i in range(4) for below in (False, True)}
         self.assertEqual(wanted - met, set())
 
-    def testfarthest_books(self):
+    def test_farthest_books(self):
         """The loans of these books: the nearest whole numbers are almost a cent away."""
         for lines in book_runs.farthest_books():
             loans = [forms.read_feeding(line) for line in lines if line.startswith(b"(loan ")]
@@ -527,10 +525,10 @@ class Marks(unittest.TestCase):
         opened, refusals = fed(header, *lines)
         plain, _ = fed(header, *lines[:2], *lines[-2:])
         self.assertEqual(refusals, [0] * len(lines))
-        self.assertEqual(opened.sum_bounds(book_runs.LOAN_DISTANCE), (2, 2, 0, 0))
+        self.assertEqual(opened.sum_bounds(), (2, 2, 0, 0))
         self.assertEqual(opened.figures(2, 0), plain.figures(2, 0))
         self.assertEqual(opened.exact_requirement(), plain.exact_requirement())
-        charges = [charge for charge, _ in cells.charge_bounds(opened, book_runs.LOAN_DISTANCE)]
+        charges = [charge for charge, _ in cells.charge_bounds(opened)]
         self.assertEqual([place for place, charge in zip(cells.PLACES, charges) if charge], [(7, 1), (11, 1)])
         self.assertEqual(cells.text(opened, charges), cells.text(plain, charges))
 
@@ -694,7 +692,7 @@ class Books(unittest.TestCase):
         for fresh, line in ((1, book_runs.SMALL_LOAN), (0, book_runs.SMALL_AGED), (0, unscored)):
             for lent in (None, [1] * 66, [300] * 66):
                 found = book.run(b"(book (loans 1) (unscored %d) (fresh %d) (held 0))\n" % (line is unscored, fresh) + line, lent)
-                bounds = found.sum_bounds(book_runs.LOAN_DISTANCE)
+                bounds = found.sum_bounds()
                 self.assertEqual(bounds, (book_runs.SMALL_TOTAL, book_runs.SMALL_TOTAL, 0, 0))
 
     def test_cells(self):
@@ -702,7 +700,7 @@ class Books(unittest.TestCase):
         lines = book_runs.SMALL_LOAN * 2 + book_runs.SMALL_LOAN.replace(b"900 0", b"599 600")
         found = book.run(b"(book (loans 3) (unscored 0) (fresh 2) (held 0))\n" + lines)
         certain = [(charge, charge) for charge in (1, *[0] * 49, 2, *[0] * 9)]
-        self.assertEqual(list(cells.charge_bounds(found, book_runs.LOAN_DISTANCE)), certain)
+        self.assertEqual(list(cells.charge_bounds(found)), certain)
         table = cells.text(found, [charge for charge, _ in certain]).split(b"\n")
         self.assertEqual(len(table), 61)
         self.assertEqual((table[0], table[50]), (b"(cell 1 1 1 1 1)", b"(cell 11 1 2 2 2)"))

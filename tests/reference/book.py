@@ -141,10 +141,10 @@ def _exact_bounds(*values):
 
 
 @lru_cache(maxsize=1 << 12)
-def _allowed_numbers(values, distance):
+def _allowed_numbers(values):
     """The least and greatest allowed total number of a loan, and supplement number."""
     total, supplement = _exact_terms(*values)
-    return loan.allowed_total(total, distance) + loan.allowed_supplement(supplement, distance)
+    return loan.allowed_total(total) + loan.allowed_supplement(supplement)
 
 
 class Book:
@@ -263,15 +263,15 @@ class Book:
         """The forms of the loans taken."""
         return [form for form in self.taken if is_loan(form)]
 
-    def number_bounds(self, form, distance):
+    def number_bounds(self, form):
         """The least and greatest allowed total number of a loan taken, and supplement number."""
-        return _allowed_numbers(self.loan_terms(form), distance)
+        return _allowed_numbers(self.loan_terms(form))
 
-    def sum_bounds(self, distance):
+    def sum_bounds(self):
         """The least and greatest allowed sum of the loans' total numbers, and of their supplements."""
         sums = [0, 0, 0, 0]
         for form in self.loan_forms():
-            sums = [s + x for s, x in zip(sums, self.number_bounds(form, distance))]
+            sums = [s + x for s, x in zip(sums, self.number_bounds(form))]
         return tuple(sums)
 
     def sums(self, kind):

@@ -31,9 +31,9 @@ def by_cell(found, amounts):
     return tuple(sums.values())
 
 
-def charge_bounds(found, distance):
+def charge_bounds(found):
     """For each cell of a book the least and the greatest allowed charge."""
-    bounds = [(form, found.number_bounds(form, distance)) for form in found.loan_forms()]
+    bounds = [(form, found.number_bounds(form)) for form in found.loan_forms()]
     return tuple(zip(*(by_cell(found, ((form, numbers[side]) for form, numbers in bounds)) for side in (0, 1))))
 
 

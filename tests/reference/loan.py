@@ -8,6 +8,7 @@ from fractions import Fraction
 from .exponential import combination_ceil, combination_floor
 
 ZERO = Fraction(0)
+DISTANCE = Fraction(21, 20)  # request L7: a loan's two numbers lie less than this from the exact ones, in cents
 
 
 def _number(text):
@@ -197,13 +198,13 @@ def credit_factor(score, aged, loans, unscored, sheet=None):
     return Fraction(CREDIT_BANDS[band(number) - 1][1][column])
 
 
-def allowed_total(terms, distance):
-    """The whole numbers not below the exact amount and less than distance above it."""
-    return combination_ceil(terms), combination_ceil(list(terms) + [(distance, ZERO)]) - 1
+def allowed_total(terms):
+    """The whole numbers not below the exact amount and less than DISTANCE above it."""
+    return combination_ceil(terms), combination_ceil(list(terms) + [(DISTANCE, ZERO)]) - 1
 
 
-def allowed_supplement(terms, distance):
-    """The whole numbers not above the exact amount and less than distance below it; 0 alone where it is 0."""
+def allowed_supplement(terms):
+    """The whole numbers not above the exact amount and less than DISTANCE below it; 0 alone where it is 0."""
     if not terms:
         return 0, 0
-    return combination_floor(list(terms) + [(-distance, ZERO)]) + 1, combination_floor(terms)
+    return combination_floor(list(terms) + [(-DISTANCE, ZERO)]) + 1, combination_floor(terms)

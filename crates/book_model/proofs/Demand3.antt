@@ -52,8 +52,8 @@ use Rattle.book_model.proofs.ExactSums.{rest-sum, moved-sum, rounded-is
 use Rattle.book_model.proofs.Feeding.{opening-sound}
 use Rattle.book_model.proofs.IndexTables.{none-set}
 use Rattle.book_model.proofs.Ledger.{Good, GoodLedger, in-hundredths, ledger-of, good-of, taken-mark, accepts, leaves, names-length, named-at, name-at}
-use Rattle.book_model.proofs.LoanNumbers.{loan-numbers}
 use Rattle.book_model.proofs.LineSums.{sum-permuted as line-sum-permuted}
+use Rattle.book_model.proofs.LoanNumbers.{loan-numbers}
 use Rattle.book_model.proofs.MarkRows.{HeldMark, a-mark, no-mark, held-mark}
 use Rattle.book_model.proofs.Notes.{member, mark-content, noted-among}
 use Rattle.book_model.proofs.Near.{ChargeableBasis, rates-chargeable}

@@ -3,10 +3,10 @@ use mathlib.Core.Path.{_≡_, refl, ap, subst}
 use mathlib.Core.List.{List, List·Memᴰ}
 use Prim.Native.Nat.{ℕ, _*_}
 use native.Mathlib.Omega.{arith}
-use Rattle.exact.specs.Fraction.{quotient, whole, _⊗_, _≼_, _≈_}
+use Rattle.exact.specs.Fraction.{Fraction, Proper, quotient, whole, _⊗_, _≈_}
 use Rattle.exact.proofs.Fractions
 use Rattle.exact.proofs.Quantities.{at-every-order, mapped}
-use Rattle.exact.proofs.Within.{within-alike, within-wider}
+use Rattle.exact.proofs.Within.{Within, within-alike, within-wider}
 use Rattle.fixed_point.specs.declared.Signed.{Signed}
 use Rattle.loan_charge.specs.Promise.{signedCents, tolerance, Promised}
 use Rattle.loan_charge.specs.declared.charge.LoanCharge.{LoanCharge}
@@ -64,9 +64,9 @@ no-numbers g s n = go (shape g (lineContent (lineOf s))) refl
 figure-is : (x : Signed) → signedCents x ≈ signedCents (difference (x .plus) (x .minus))
 figure-is x = record { crossed = omega arith }
 
--- the tolerance of n loans
-of-loans : (n : ℕ) → quotient (105 * n) 100 ≼ whole n ⊗ tolerance
-of-loans n = record { crossed = omega arith }
+-- the sums of n loans near the exact ones, either side written another way
+rewritten : {x y x′ y′ : Fraction} (n : ℕ) → Proper x′ → Proper y′ → x ≈ x′ → y ≈ y′ → Within x y (quotient (105 * n) 100) → Within x′ y′ (whole n ⊗ tolerance)
+rewritten n p q e k w = within-wider (record { positive = omega arith }) (record { crossed = omega arith }) (within-alike p q e k w)
 
 pub loan-numbers : {g : Basis} → ChargeableBasis g → (kept : List (List ℕ)) → Settled (g .index) kept → (f : Figures) →
     f .total ≡ difference (sumsBy g kept .total .plus) (sumsBy g kept .total .minus) →
@@ -80,12 +80,11 @@ loan-numbers {g} u kept z f e k =
       each = each-loan u kept z;
       others = λ s m h. no-numbers g s h;
       total = rw e (at-every-order (totalBy g kept) _ exponents (mapped (λ m c.
-          let w = within-wider (record { positive = omega arith }) (of-loans n) (within-alike (c .near-total .lower) (record { positive = omega arith })
-          (Fractions.same-refl _) (figure-is (sums .total)) (c .near-total)) in
+          let w = rewritten n (c .near-total .lower) (record { positive = omega arith }) (Fractions.same-refl _) (figure-is (sums .total)) (c .near-total) in
           (w .lower, (w .at-most, w .near))) law));
       supplement = rw k (at-every-order (supplementBy g kept) _ exponents (mapped (λ m c.
-          let w = within-wider (record { positive = omega arith }) (of-loans n) (within-alike (record { positive = omega arith }) (c .near-supplement .upper)
-          (figure-is (sums .supplement)) (Fractions.same-refl _) (c .near-supplement)) in
+          let w = rewritten n (record { positive = omega arith }) (c .near-supplement .upper) (figure-is (sums .supplement)) (Fractions.same-refl _)
+          (c .near-supplement) in
           (w .upper, (w .at-most, w .near))) law));
       total-determined = totals-depend u kept z;
       supplement-determined = supplements-depend u kept z;

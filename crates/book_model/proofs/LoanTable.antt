@@ -12,12 +12,8 @@ use Rattle.cell_report.specs.declared.Cell.{Cell}
 use Rattle.line_forms.specs.declared.Loan.{Loan}
 use Rattle.line_forms.specs.declared.Content.{Content}
 use Rattle.line_forms.specs.declared.Content.the-variants.{Loan as loan}
-use Rattle.line_forms.specs.declared.Line.{Line}
-use Rattle.line_forms.specs.declared.Line.the-variants.{Loan as LoanLine, Policy as PolicyLine, Derivative as DerivativeLine, Asset as AssetLine}
-use Rattle.line_forms.specs.declared.Line.the-variants.{Amount as AmountLine, Index as IndexLine, Mark as MarkRead, Refusal}
 use Rattle.line_forms.specs.Claims.{ShowsInRange, lineContent}
 use Rattle.line_forms.specs.Readings.{lineOf}
-use Rattle.line_forms.proofs.LineLaws.{line-accepted}
 use Rattle.figures.specs.Sums.{sumOf}
 use Rattle.cell_report.specs.CellReport.{placeOf, cellAt}
 use Rattle.cell_report.proofs.Laws.{cells-alike}
@@ -35,6 +31,7 @@ use Rattle.book_model.proofs.Bands.{bands, columns}
 use Rattle.book_model.proofs.Cells.{Between, band-between, loan-ltv-between, Held, a-loan, no-loan, held}
 use Rattle.book_model.proofs.Demand3.{after-is, writes-of, basis-permuted, same-texts}
 use Rattle.book_model.proofs.LineSums.{sum-alike, sum-permuted}
+use Rattle.book_model.proofs.SetValues.{shown, loan-content}
 use Rattle.book_model.proofs.Shapes.{Shape, of-loan, of-other, of-none, shape}
 use Rattle.book_model.proofs.Steps.{bookOf, stateOf}
 use Rattle.book_model.proofs.Tables.{placed, placedBy, cellsOf, cells-at, place-room}
@@ -136,26 +133,18 @@ no-member false n h = refl
 
 cell-adds : (values : Index) (s : List ℕ) (band ltv : ℕ) (f : Loan → ℕ) → CellAdds values s band ltv f
 cell-adds values s band ltv f = record {
-  member = λ l h b k.
-      rw (line-accepted s (loan l) tt .1 (h .shows .writable, h .in-range, h .shows .bytes), eq-eqb (loanBand l) band b, eq-eqb (loanLtv values l) ltv k) refl;
-  other = λ h. go (lineOf s) refl h;
+  member = λ l h b k. rw (loan-content s l h, eq-eqb (loanBand l) band b, eq-eqb (loanLtv values l) ltv k) refl;
+  other = λ h. go (held (lineContent (lineOf s))) refl h;
 }
   where
-    go : (l : Line) → lineOf s ≡ l → ((x : Loan) → ShowsInRange s (loan x) → loanBand x ≡ band → loanLtv values x ≡ ltv → ⊥) →
-        inCell values band ltv f (lineContent l) ≡ 0
-    go (LoanLine l) e h =
-        let (w, r, y) = line-accepted s (loan l) tt .0 e in
+    go : {c : Content} → Held c → lineContent (lineOf s) ≡ c → ((x : Loan) → ShowsInRange s (loan x) → loanBand x ≡ band → loanLtv values x ≡ ltv → ⊥) →
+        inCell values band ltv f c ≡ 0
+    go (a-loan l) e h =
         no-member (eqb (loanBand l) band && eqb (loanLtv values l) ltv) (f l)
         (λ t.
         let (b, k) = both (eqb (loanBand l) band) (eqb (loanLtv values l) ltv) t in
-        h l (record { shows = record { writable = w; bytes = y }; in-range = r }) (eqb-true (loanBand l) band b) (eqb-true (loanLtv values l) ltv k))
-    go (PolicyLine p) e h = refl
-    go (DerivativeLine d) e h = refl
-    go (AssetLine a) e h = refl
-    go (AmountLine a) e h = refl
-    go (IndexLine i) e h = refl
-    go (MarkRead m) e h = refl
-    go (Refusal n) e h = refl
+        h l (shown s (loan l) tt e) (eqb-true (loanBand l) band b) (eqb-true (loanLtv values l) ltv k))
+    go (no-loan n) e h = n ℕ _ 0
 
 -- The place j of a cell sums f over the loans of its band and column, where f is what a loan adds there.
 module _ (g : Basis) (band ltv j : ℕ) (b : Between 1 12 band) (k : Between 1 5 ltv) (few : j < 4) (f : Loan → ℕ)
