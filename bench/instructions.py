@@ -12,10 +12,9 @@ import tempfile
 from pathlib import Path
 
 import make_book
+from processes import PROGRAM
 
-ROOT = Path(__file__).resolve().parent.parent
-PROGRAM = ROOT / "target" / "bin" / "capital"
-LIMIT = 1700
+LIMIT = 1610
 FEW, MANY = 1_000, 3_000
 SEED = 1
 

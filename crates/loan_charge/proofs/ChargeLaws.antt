@@ -24,7 +24,8 @@ use Rattle.loan_charge.specs.Charge.{valueRatio, ratioOf, curveAOf, curv
 use Rattle.loan_charge.specs.Charge.{exactSupplement, exactTotal, baseExponents, rateExponents, allExponents, totalExponents}
 use Rattle.loan_charge.specs.Charge.{supplementExponents, totalQuantity, supplementQuantity, Chargeable}
 use Rattle.loan_charge.specs.Promise.{signedCents, tolerance, NearExact, Promised, InRange}
-use Rattle.loan_charge.specs.Computation.{scaledValue, ratioUnits, signed, height, heights, curveUnits, curvesSum, aUnits, bUnits, factor, rate}
+use Rattle.loan_charge.specs.Computation.{scaledValue, ratioUnits, signed, exponent, exponents, heightsAt, heights, curveUnits, curvesSum, aUnits}
+use Rattle.loan_charge.specs.Computation.{bUnits, factor, rate}
 use Rattle.loan_charge.specs.Computation.{times, roundedUp, roundedDown, zeroAmount, baseUnits, rateUnits, chargeFrom, chargeOf}
 use Rattle.coefficients.specs.declared.ScaledCurve.{ScaledCurve}
 use Rattle.loan_charge.specs.declared.LoanInputs.{LoanInputs}
@@ -154,8 +155,7 @@ valued e k l = record {
 }
 
 gauss-enclosed : (p q : ℕ) → 0 < q → {mean deviation : Fraction} {i s : ℕ} → Mean mean i → Deviation deviation s →
-    Enclosed (height (scaledValue p q) i s) (gaussExponent (valueRatio p q) mean deviation)
-unfolding height
+    Enclosed (expUpper (exponent (scaledValue p q) i s)) (gaussExponent (valueRatio p q) mean deviation)
 gauss-enclosed p q pos {i = i} {s = s} μ σ = record {
   a = exponentNum (max p q) q i;
   d = exponentDen q s;
@@ -198,11 +198,11 @@ module _ (l : LoanInputs) (c : Chargeable l) where
 
   module _ {w₁ p₂ m₂ : ℕ} {curve : Curve} {s : ScaledCurve} (e : ScaledCurveOf w₁ p₂ m₂ curve s) where
     first-enclosed : Enclosed (heights w s .first) (exponent1 curve z)
-    unfolding heights
+    unfolding heights heightsAt exponents
     first-enclosed = gauss-enclosed (l .value) (l .over) (c .divisor-least) (e .mean1) (e .deviation1)
 
     second-enclosed : Enclosed (heights w s .second) (exponent2 curve z)
-    unfolding heights
+    unfolding heights heightsAt exponents
     second-enclosed = gauss-enclosed (l .value) (l .over) (c .divisor-least) (e .mean2) (e .deviation2)
 
   A₁ : Enclosed (heights w a .first) (exponent1 (curveAOf l) z)

@@ -68,14 +68,14 @@ pub step₅ : {P q : ℕ} {d d₁ d₂ d₃ d₄ d₅ : Division} → Divided 1 
     d₃ ≡ divisionStep d₂ q 512 → d₄ ≡ divisionStep d₃ q 512 → d₅ ≡ divisionStep d₄ q 512 → Divided unit P q d₅
 step₅ h e₁ e₂ e₃ e₄ e₅ = divided-step 512 (step₄ h e₁ e₂ e₃ e₄) e₅
 
--- A division of 120000 p, carried on by 2^27.
+-- A division of 960000 p, carried on by 2^24.
 
-pub multiplied : (p q : ℕ) → 0 < q → Divided 120000 p q (record { quotient = p * 120000 / q; remainder = p * 120000 % q })
-multiplied p q h = record { whole = div-add-mod' (p * 120000) q ∙ mul-comm p 120000; small = mod-lt (p * 120000) h }
+pub multiplied : (p q : ℕ) → 0 < q → Divided 960000 p q (record { quotient = p * 960000 / q; remainder = p * 960000 % q })
+multiplied p q h = record { whole = div-add-mod' (p * 960000) q ∙ mul-comm p 960000; small = mod-lt (p * 960000) h }
 
 pub multiplied-step : (p q : ℕ) {d : Division} → 0 < q →
-    d ≡ divisionStep (record { quotient = p * 120000 / q; remainder = p * 120000 % q }) q 134217728 → d .quotient ≡ unit * p / q
-multiplied-step p q pos e = quotient-is (divided-step 134217728 (multiplied p q pos) e)
+    d ≡ divisionStep (record { quotient = p * 960000 / q; remainder = p * 960000 % q }) q 16777216 → d .quotient ≡ unit * p / q
+multiplied-step p q pos e = quotient-is (divided-step 16777216 (multiplied p q pos) e)
 
 -- The three cases of the value.
 

@@ -1,6 +1,6 @@
 -- The sizes of what the charge computes, so that each step fits.
 -- Assumes nothing.
-use mathlib.Core.Path.{_≡_}
+use mathlib.Core.Path.{_≡_, _∙_, ap, ap₂, subst⁻¹}
 use mathlib.Core.Bool.{Bool}
 use Prim.Native.Nat.{ℕ, _+_, _*_, _/_, _^_, _≤_}
 use native.Mathlib.Omega.{arith}
@@ -9,11 +9,12 @@ use Rattle.exponential.specs.Exponential.{expUpper}
 use Rattle.exponential.proofs.Laws as Exponential
 use Rattle.coefficients.specs.Coefficients.{Curve, firstSet, Months}
 use Rattle.coefficients.specs.Integers.{scaledA, scaledB, scaledC, tenthsB}
-use Rattle.loan_charge.specs.Computation.{unit, exponent, height, heights, Usable, curveUnits, curvesSum, factor, rate, times, ratioUnits, aUnits}
-use Rattle.loan_charge.specs.Computation.{bUnits, baseUnits, rateUnits}
+use Rattle.loan_charge.specs.Computation.{unit, exponents, heightsAt, heights, Usable, weighted, curveUnits, curvesSum, factor, rate, times}
+use Rattle.loan_charge.specs.Computation.{ratioUnits, aUnits, bUnits, baseUnits, rateUnits}
 use Rattle.loan_charge.specs.Charge.{Chargeable}
 use Rattle.loan_charge.specs.declared.LoanInputs.{LoanInputs}
 use Rattle.coefficients.specs.declared.ScaledCurve.{ScaledCurve}
+use Rattle.loan_charge.specs.declared.charge.Exponents.{Exponents}
 use Rattle.loan_charge.specs.declared.charge.Heights.{Heights}
 use Rattle.loan_charge.specs.declared.charge.LoanCharge.{LoanCharge}
 use Rattle.fixed_point.specs.declared.Signed.{Signed}
@@ -26,6 +27,9 @@ use Rattle.loan_charge.proofs.Money.{Weights, AtMostOne, SignedAtMost, 
 
 pub two-heights : {a b c d : ℕ} → a ≡ c → b ≡ d → _≡_ {A = Heights} (record { first = a; second = b }) (record { first = c; second = d })
 two-heights p q = λ i. record { first = p i; second = q i }
+
+pub two-exponents : {a b c d : ℕ} → a ≡ c → b ≡ d → _≡_ {A = Exponents} (record { first = a; second = b }) (record { first = c; second = d })
+two-exponents p q = λ i. record { first = p i; second = q i }
 
 pub numbers : {a b c d : Signed} → a ≡ c → b ≡ d →
     _≡_ {A = LoanCharge} (record { total = a; supplement = b }) (record { total = c; supplement = d })
@@ -47,23 +51,29 @@ usable h hw hp hm = record {
   deviation2 = h .deviation2 .least;
 }
 
-pub usable-a : (first : Bool) {n : ℕ} → Months n → Usable (scaledA first n)
-usable-a first {n} h = usable (scaled-a n h first) (omega arith) (omega arith) (omega arith)
+pub usable-a : (first : Bool) {n : ℕ} {s : ScaledCurve} → s ≡ scaledA first n → Months n → Usable s
+usable-a first {n} e h = subst⁻¹ Usable e (usable (scaled-a n h first) (omega arith) (omega arith) (omega arith))
 
-pub usable-b : (first : Bool) {n : ℕ} → Months n → Usable (scaledB first n)
-usable-b first {n} h = usable (scaled-b n h first) (omega arith) (omega arith) (omega arith)
+pub usable-b : (first : Bool) {n : ℕ} {s : ScaledCurve} → s ≡ scaledB first n → Months n → Usable s
+usable-b first {n} e h = subst⁻¹ Usable e (usable (scaled-b n h first) (omega arith) (omega arith) (omega arith))
 
-pub heights-small : (w : ℕ) (c : ScaledCurve) → AtMostOne (heights w c)
-unfolding heights height
-heights-small w c = record {
-  first = Exponential.bounded (exponent w (c .mean1) (c .deviation1));
-  second = Exponential.bounded (exponent w (c .mean2) (c .deviation2));
-}
+pub heights-small : (y : Exponents) → AtMostOne (heightsAt y)
+unfolding heightsAt
+heights-small y = record { first = Exponential.bounded (y .first); second = Exponential.bounded (y .second) }
+
+-- What is weighted at a curve's exponents is the curve at z.
+pub curve-is : {w z : ℕ} {c s : ScaledCurve} {y : Exponents} {r : Signed} → w ≡ z → c ≡ s → y ≡ exponents w c → r ≡ weighted c (heightsAt y) →
+    r ≡ curveUnits z s
+unfolding curveUnits heights
+curve-is {c = c} ew ec ey er =
+    er ∙
+    ap (λ (y : Exponents). weighted c (heightsAt y)) ey ∙
+    ap₂ (λ (n : ℕ) (k : ScaledCurve). weighted k (heightsAt (exponents n k))) ew ec
 
 pub curve-most : {w p m : ℕ} {curve : Curve} {s : ScaledCurve} → ScaledCurveOf w p m curve s → (z : ℕ) →
     SignedAtMost (w * 2 ^ 40 + p * 2 ^ 40) (m * 2 ^ 40) (curveUnits z s)
-unfolding curveUnits
-curve-most {w} {p} {m} {s = s} h z = weighted-most w p m (weights h) (heights-small z s)
+unfolding curveUnits heights
+curve-most {w} {p} {m} {s = s} h z = weighted-most w p m (weights h) (heights-small (exponents z s))
 
 pub months-in : {l : LoanInputs} → Chargeable l → Months (l .months)
 months-in c = record { least = c .months-least; most = c .months-most }

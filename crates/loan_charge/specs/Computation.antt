@@ -10,6 +10,7 @@ use Rattle.coefficients.specs.Coefficients.{firstSet}
 use Rattle.coefficients.specs.Integers.{scaledA, scaledB, scaledC, tenthsB}
 use Rattle.loan_charge.specs.CreditFactor.{count}
 use Rattle.loan_charge.specs.declared.LoanInputs.{LoanInputs}
+use Rattle.loan_charge.specs.declared.charge.Exponents.{Exponents}
 use Rattle.loan_charge.specs.declared.charge.Heights.{Heights}
 use Rattle.loan_charge.specs.declared.charge.LoanCharge.{LoanCharge}
 use Rattle.fixed_point.specs.declared.Signed.{Signed}
@@ -35,12 +36,16 @@ deviations w mean deviation = distance w mean * 8192 / deviation
 unfoldable pub exponent : ℕ → ℕ → ℕ → ℕ
 exponent w mean deviation = scaledProduct (deviations w mean deviation) (deviations w mean deviation) / 8
 
--- exp(-(z - mean)² / (2 deviation²)), in units of 2^-40, and never below it
-unfoldable pub height : ℕ → ℕ → ℕ → ℕ
-height w mean deviation = expUpper (exponent w mean deviation)
+-- both exponents of a curve at z
+unfoldable pub exponents : ℕ → ScaledCurve → Exponents
+exponents w c = record { first = exponent w (c .mean1) (c .deviation1); second = exponent w (c .mean2) (c .deviation2) }
+
+-- exp(-y) of both, in units of 2^-40, and never below it
+unfoldable pub heightsAt : Exponents → Heights
+heightsAt y = record { first = expUpper (y .first); second = expUpper (y .second) }
 
 unfoldable pub heights : ℕ → ScaledCurve → Heights
-heights w c = record { first = height w (c .mean1) (c .deviation1); second = height w (c .mean2) (c .deviation2) }
+heights w c = heightsAt (exponents w c)
 
 -- what the functions of a curve ask of its whole numbers
 pub record Usable (c : ScaledCurve) : Type 0 where

@@ -5,8 +5,8 @@ ghost use mathlib.Core.Bool.{true, false};
 ghost use Rattle.loan_charge.specs.Tables.{exponentials};
 ghost use Rattle.fixed_point.specs.Quotient.{scaledProduct};
 ghost use Rattle.loan_charge.specs.Charge.{Chargeable};
-ghost use Rattle.loan_charge.specs.Computation.{unit, scaledValue, ratioUnits, distance, deviations, exponent, height, heights, Usable};
-ghost use Rattle.loan_charge.specs.Computation.{weighted, scaledSum, curvesSum, curveUnits, aUnits, bUnits, factor, rate, times, signed};
+ghost use Rattle.loan_charge.specs.Computation.{unit, scaledValue, ratioUnits, distance, deviations, exponent, exponents, heightsAt, Usable};
+ghost use Rattle.loan_charge.specs.Computation.{weighted, scaledSum, curvesSum, aUnits, bUnits, factor, rate, times, signed};
 ghost use Rattle.loan_charge.specs.Computation.{roundedUp, roundedDown, baseUnits, rateUnits, chargeFrom, chargeOf};
 use crate::LoanInputs;
 use coefficients::ScaledCurve;
@@ -27,6 +27,12 @@ pub type Exponentials = exponential::Exponentials;
 pub struct LoanCharge {
     pub total: Signed,
     pub supplement: Signed,
+}
+
+// The two exponents of a curve, in units of 2^-38.
+struct Exponents {
+    first: u64,
+    second: u64,
 }
 
 // The two exponentials of a curve, in units of 2^-40.
@@ -71,20 +77,20 @@ fn refine(d: Division, q: u64) -> u64
     d5.quotient
 }
 
-// z of a divisor that leaves room for larger steps: 120000 p fits, so one more step is enough.
+// z of a divisor that leaves room for larger steps: 960000 p fits, so one more step is enough.
 fn short_value(p: u64, q: u64) -> u64
-    requires { ⌜ (0 < q) × (q ≤ p) × (q < 2 ^ 36) ⌝ }
+    requires { ⌜ (0 < q) × (q ≤ p) × (q < 2 ^ 40) ⌝ }
     ensures { λ r. ⌜ r ≡ scaledValue p q ⌝ }
 {
     if 16 * q <= p {
         return 16 * UNIT;
     }
-    let n = p * 120000;
+    let n = p * 960000;
     let d = Division {
         quotient: n / q,
         remainder: n % q,
     };
-    let last = division_step(d, q, 134217728);
+    let last = division_step(d, q, 16777216);
     last.quotient
 }
 
@@ -112,7 +118,7 @@ fn scaled_value(p: u64, q: u64) -> u64
     if p < q {
         return UNIT;
     }
-    if q < 68719476736 {
+    if q < 1099511627776 {
         short_value(p, q)
     } else {
         long_value(p, q)
@@ -145,21 +151,25 @@ fn exponent_of(w: u64, mean: u64, deviation: u64) -> u64
     scaled_product(t, t) / 8
 }
 
-// exp(-(z - mean)² / (2 deviation²)), never below it.
-fn height_of(w: u64, mean: u64, deviation: u64, exps: &Exponentials) -> u64
-    requires { ⌜ (w ≤ 16 * unit) × (mean < 2 ^ 20) × (8192 ≤ deviation) × (now exps ≡ exponentials) ⌝ }
-    ensures { λ r. ⌜ r ≡ height w mean deviation ⌝ }
+// Both exponents of a curve at z.
+fn exponents_of(w: u64, c: ScaledCurve) -> Exponents
+    requires { ⌜ (w ≤ 16 * unit) × Usable c ⌝ }
+    ensures { λ r. ⌜ r ≡ exponents w c ⌝ }
 {
-    exponential::exp_upper(exponent_of(w, mean, deviation), exps)
+    Exponents {
+        first: exponent_of(w, c.mean1, c.deviation1),
+        second: exponent_of(w, c.mean2, c.deviation2),
+    }
 }
 
-fn heights_of(w: u64, c: ScaledCurve, exps: &Exponentials) -> Heights
-    requires { ⌜ (w ≤ 16 * unit) × Usable c × (now exps ≡ exponentials) ⌝ }
-    ensures { λ r. ⌜ r ≡ heights w c ⌝ }
+// exp(-y) of both, never below it.
+fn heights_at(y: Exponents, exps: &Exponentials) -> Heights
+    requires { ⌜ now exps ≡ exponentials ⌝ }
+    ensures { λ r. ⌜ r ≡ heightsAt y ⌝ }
 {
     Heights {
-        first: height_of(w, c.mean1, c.deviation1, exps),
-        second: height_of(w, c.mean2, c.deviation2, exps),
+        first: exponential::exp_upper(y.first, exps),
+        second: exponential::exp_upper(y.second, exps),
     }
 }
 
@@ -174,26 +184,12 @@ fn weigh(c: ScaledCurve, h: Heights) -> Signed
     }
 }
 
-// A curve at z.
-fn curve_units(w: u64, c: ScaledCurve, exps: &Exponentials) -> Signed
-    requires { ⌜ (w ≤ 16 * unit) × Usable c × (now exps ≡ exponentials) ⌝ }
-    ensures { λ r. ⌜ r ≡ curveUnits w c ⌝ }
+// A curve at its exponents.
+fn curve_units(c: ScaledCurve, y: Exponents, exps: &Exponentials) -> Signed
+    requires { ⌜ Usable c × (now exps ≡ exponentials) ⌝ }
+    ensures { λ r. ⌜ r ≡ weighted c (heightsAt y) ⌝ }
 {
-    weigh(c, heights_of(w, c, exps))
-}
-
-fn a_units(l: LoanInputs, w: u64, exps: &Exponentials) -> Signed
-    requires { ⌜ Chargeable l × (w ≡ ratioUnits l) × (now exps ≡ exponentials) ⌝ }
-    ensures { λ r. ⌜ r ≡ aUnits l ⌝ }
-{
-    curve_units(w, curve_a(first_set(l.term), l.months), exps)
-}
-
-fn b_units(l: LoanInputs, w: u64, exps: &Exponentials) -> Signed
-    requires { ⌜ Chargeable l × (w ≡ ratioUnits l) × (now exps ≡ exponentials) ⌝ }
-    ensures { λ r. ⌜ r ≡ bUnits l ⌝ }
-{
-    curve_units(w, curve_b(first_set(l.term), l.months), exps)
+    weigh(c, heights_at(y, exps))
 }
 
 // 10^7 x + k y, for x and y in units of 2^-40: of two parts each, so that no product passes 64 bits.
@@ -298,14 +294,30 @@ fn rounded_down(x: Signed) -> Signed
     without_offset((x.plus + FLOOR_OFFSET - x.minus) / CENT)
 }
 
-// The base.
+// Both curves in one sum. All exponents are made before any exponential, so that their divisions stand together: a processor works on several at
+// once, but looks ahead only so far.
+fn curves_at(l: LoanInputs, w: u64, exps: &Exponentials) -> Signed
+    requires { ⌜ Chargeable l × (w ≡ ratioUnits l) × (now exps ≡ exponentials) ⌝ }
+    ensures { λ r. ⌜ r ≡ curvesSum (l .balance) (aUnits l) (bUnits l) ⌝ }
+{
+    let first = first_set(l.term);
+    let ca = curve_a(first, l.months);
+    let cb = curve_b(first, l.months);
+    let ya = exponents_of(w, ca);
+    let yb = exponents_of(w, cb);
+    let a = curve_units(ca, ya, exps);
+    let b = curve_units(cb, yb, exps);
+    curves_sum(l.balance, a, b)
+}
+
+// The base. m, a division too, is made before the exponentials for the same reason.
 fn base_units(l: LoanInputs, w: u64, exps: &Exponentials) -> Signed
     requires { ⌜ Chargeable l × (w ≡ ratioUnits l) × (now exps ≡ exponentials) ⌝ }
     ensures { λ r. ⌜ r ≡ baseUnits l ⌝ }
 {
-    let a = a_units(l, w, exps);
-    let b = b_units(l, w, exps);
-    times_rate(curves_sum(l.balance, a, b), factor_of(l.factor))
+    let m = factor_of(l.factor);
+    let sum = curves_at(l, w, exps);
+    times_rate(sum, m)
 }
 
 // r of the supplement.

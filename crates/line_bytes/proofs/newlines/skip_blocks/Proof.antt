@@ -24,10 +24,10 @@ loop-again c =
     let chunk = c .before .before .before .before .before .before .args .chunk .now in
     let l = c .before .before .before .before .loop in
     let n : length (drop (l .i) chunk) ≡ length chunk - l .i = length-drop (l .i) chunk in
-    let s : l .i + 16 - l .i ≡ 16 = omega arith in
-    let e : c .before .clear .result ≡ unbroken (take (l .i + 16 - l .i) (drop (l .i) chunk)) = c .before .clear .ensures in
-    let k : unbroken (take 16 (drop (l .i) chunk)) ≡ true = rw s at (sym e) ∙ not-false (c .before .clear .result) (c .if1 .left) in
-    (l .inv .0 ∙ block-skipped chunk (l .i) 16 (omega arith) k, omega arith)
+    let s : l .i + 32 - l .i ≡ 32 = omega arith in
+    let e : c .before .clear .result ≡ unbroken (take (l .i + 32 - l .i) (drop (l .i) chunk)) = c .before .clear .ensures in
+    let k : unbroken (take 32 (drop (l .i) chunk)) ≡ true = rw s at (sym e) ∙ not-false (c .before .clear .result) (c .if1 .left) in
+    (l .inv .0 ∙ block-skipped chunk (l .i) 32 (omega arith) k, omega arith)
 
 pub skip-blocks-spec : {M : Type 1} → statement M
 skip-blocks-spec =

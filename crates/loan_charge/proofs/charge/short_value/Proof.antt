@@ -1,4 +1,4 @@
--- `charge::short_value` meets its contract: one step of a division begun by 120000 p. Assumes nothing.
+-- `charge::short_value` meets its contract: one step of a division begun by 960000 p. Assumes nothing.
 use native.Mathlib.Omega.{arith}
 use Rattle.loan_charge.proofs.ScaledValue.{value-most, value-between, multiplied, multiplied-step, step-fits}
 use borrow.Author.Needs.{needs}
@@ -11,7 +11,7 @@ returns c = value-most (c .before .args .p) (c .before .args .q) (c .before .pre
 division-step-requires : tie.Need-division-step-requires
 division-step-requires c κs =
     let s = c .before in
-    step-fits 134217728 (multiplied (s .args .p) (s .args .q) (s .pre .0)) (omega (arith, c .if1 .left)) (omega arith) (omega arith) (omega arith)
+    step-fits 16777216 (multiplied (s .args .p) (s .args .q) (s .pre .0)) (omega (arith, c .if1 .left)) (omega arith) (omega arith) (omega arith)
 
 returns-2 : tie.Need-returns-2
 returns-2 c =
