@@ -9,6 +9,8 @@ Pages are README.md, all of docs/, and the README.md of other folders. What is c
 - a name in a file: of "`a`, `b` in `crates/..`" and of "`crates/..`: `a`, `b`" both a and b must stand in that file.
 - README.md names each crate of crates.txt, and in its picture of the layers a crate stands above all that it is built on.
 - docs/PROOFS.md, "A reading order": each file's number of lines, each step's sum and the sum of all; the lines of code and of proofs.
+- crates/promises/specs/Promises.antt: each field is of a record, of this file or of the one that it is taken from, and what is taken is used. Each
+  record Calls.. of crates/histories/specs is promised there, and so is what a page calls a "statement `a`" or "statements `a`, `b` and `c`".
 
 The last line is 'N passed, M failed'.
 """
@@ -22,6 +24,9 @@ PARTS = ("must-fail", "specs", "proofs", "src")
 # Names from outside the repository, and words that stand for others.
 KNOWN = {"NAME", "LABEL", "FILE", "refusedN", "lem", "ac"}
 WORD = r"[A-Za-z_][A-Za-z0-9_]*(?:['-][A-Za-z0-9_]+)*'*"
+LISTED = rf"`{WORD}(?:(?:\.|::){WORD})*(?:\(\))?`"
+GROUP = rf"{LISTED}(?:(?:, | and |, and ){LISTED})*"
+PROMISES = ROOT / "crates" / "promises" / "specs" / "Promises.antt"
 
 
 def code_of(path):
@@ -93,10 +98,8 @@ def page_problems(page, known):
         else:
             for part in parts(name):
                 count(part in known, f"no {part}, as in `{name}`")
-    listed = rf"`{WORD}(?:(?:\.|::){WORD})*(?:\(\))?`"
-    group = rf"{listed}(?:(?:, | and |, and ){listed})*"
     file = r"`(crates/[A-Za-z0-9_./-]+\.(?:rt|antt))`"
-    said = [(name, these) for these, name in re.findall(rf"({group}) (?:in|of) {file}", text)] + re.findall(rf"{file}: ({group})", text)
+    said = [(name, these) for these, name in re.findall(rf"({GROUP}) (?:in|of) {file}", text)] + re.findall(rf"{file}: ({GROUP})", text)
     for name, these in said:
         there = words_of(code_of(ROOT / name)) if (ROOT / name).is_file() else set()
         for word in re.findall(WORD, " ".join(re.findall(r"`(.*?)`", these))):
@@ -160,6 +163,34 @@ def reading_order_problems():
     return right, wrong
 
 
+def records_of(path):
+    """The records that a file of definitions declares."""
+    return set(re.findall(rf"(?m)^pub record ({WORD})", code_of(path))) if path.is_file() else set()
+
+
+def promises_problems(pages):
+    """What is promised and no record, taken and not used, or left out of what is promised: as (right, wrong)."""
+    code = code_of(PROMISES)
+    files = {}  # where what is taken from another file stands: a name, or a module
+    for crate, inside, module, these in re.findall(rf"(?m)^use Rattle·(\w+)\.(specs\.\w+)(?: as ({WORD})|\.\{{(.*)\}})$", code):
+        files |= dict.fromkeys([module] if module else these.split(", "), ROOT / "crates" / crate / (inside.replace(".", "/") + ".antt"))
+    fields = re.findall(rf"(?m)^  pub {WORD} : (.*)$", code)
+    promised = {}  # each record by its whole name, after the arguments for which it holds
+    for field in fields:
+        name = re.split("→ ", field)[-1].split()[0]
+        promised[name] = files.get(name.split(".")[0], PROMISES)
+    said = {f"{PROMISES.name}: {name} is no record": name.split(".")[-1] in records_of(path) for name, path in promised.items()}
+    used = words_of(" ".join(fields))
+    said |= {f"{PROMISES.name}: {name} is taken and not used": name in used for name in files}
+    of_calls = {name for path in ROOT.glob("crates/histories/specs/*.antt") for name in records_of(path) if name.startswith("Calls")}
+    said |= {f"{PROMISES.name}: {name} is not promised": name in promised for name in of_calls}
+    for page in pages:
+        for these in re.findall(rf"\bstatements? ({GROUP})", page.read_text(encoding="utf-8")):
+            for name in re.findall(r"`(.*?)`", these):
+                said[f"{page.relative_to(ROOT)}: {PROMISES.name} does not promise {name}"] = name in promised
+    return sum(said.values()), [what for what, well in said.items() if not well]
+
+
 def main():
     known = names()
     passed = failed = 0
@@ -170,7 +201,7 @@ def main():
         failed += len(wrong)
         for what in wrong:
             print(f"{page.relative_to(ROOT)}: {what}")
-    for right, wrong in (readme_problems(), reading_order_problems()):
+    for right, wrong in (readme_problems(), reading_order_problems(), promises_problems(pages)):
         passed += right
         failed += len(wrong)
         print("".join(what + "\n" for what in sorted(wrong)), end="")

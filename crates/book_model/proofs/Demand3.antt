@@ -25,8 +25,11 @@ use Rattle.figures.specs.declared.Sums.{Sums}
 use Rattle.figures.specs.Figures.{figuresFrom, figuresOf}
 use Rattle.figures.specs.Sums.{sumOf}
 use Rattle.figures.proofs.SumsLaws.{sum-permuted}
-use Rattle.report.specs.Line.{onto}
+use Rattle.exact.specs.Text.{text}
+use Rattle.report.specs.Decimal.{digits}
+use Rattle.report.specs.Line.{line, lineCount, onto}
 use Rattle.report.proofs.Decimal.{digits-value, signed-whole}
+use Rattle.report.proofs.LineCounts.{Lines, one-line, together}
 use Rattle.book_report.specs.Report.{unsigned, valueLine, ratioLine, headText, reportText}
 use Rattle.book_model.specs.declared.Book.{Book}
 use Rattle.book_model.specs.Accepted.{Note, Accepted, countsIn, refusalFor, namesOf, keptBy, refusalOf, noNote, placeOfNote, takenUp, noted, added}
@@ -222,16 +225,53 @@ required-is t kept = rw (rounded-is (sumsOf t kept .rest) (rest-sum (basisOf t k
 regroup : (a b c d e f : List ℕ) → a ++ (b ++ c ++ d ++ e ++ f) ≡ (a ++ (b ++ c)) ++ d ++ (e ++ f)
 regroup a b c d e f = simp append-assoc
 
+-- the seven lines before `required`
+abbrev beforeRequired : Figures → List ℕ
+beforeRequired f = headText f ++ (valueLine "rest" (unsigned (f .rest)) ++ valueLine "oper" (unsigned (f .oper)))
+
 -- the eighth line among the ten
 eighth : (f : Figures) →
     reportText f ≡
-    (headText f ++ (valueLine "rest" (unsigned (f .rest)) ++ valueLine "oper" (unsigned (f .oper))))
+    beforeRequired f
     ++ valueLine "required" (unsigned (f .required))
     ++ (valueLine "capital" (f .capital) ++ ratioLine (f .ratio))
 unfolding reportText
 eighth f =
     regroup (headText f) (valueLine "rest" (unsigned (f .rest))) (valueLine "oper" (unsigned (f .oper)))
     (valueLine "required" (unsigned (f .required))) (valueLine "capital" (f .capital)) (ratioLine (f .ratio))
+
+seven : (f : Figures) → Lines (beforeRequired f) 7
+unfolding lineCount
+seven f =
+    together
+    (together
+    (together
+    (together (together (one-line (text "loans") (unsigned (f .loans)) refl) (one-line (text "total") (f .total) refl))
+    (one-line (text "supplement") (f .supplement) refl))
+    (one-line (text "home") (unsigned (f .home)) refl))
+    (one-line (text "moved") (unsigned (f .moved)) refl))
+    (together (one-line (text "rest") (unsigned (f .rest)) refl) (one-line (text "oper") (unsigned (f .oper)) refl))
+
+-- and of them the first three
+abbrev afterSupplement : Figures → List ℕ
+afterSupplement f =
+    valueLine "home" (unsigned (f .home)) ++ valueLine "moved" (unsigned (f .moved)) ++ valueLine "rest" (unsigned (f .rest))
+    ++ valueLine "oper" (unsigned (f .oper))
+
+first-three : (f : Figures) (loans : ℕ) → f .loans ≡ loans → beforeRequired f ≡
+    line (text "loans") (digits loans ∷ []) ++ valueLine "total" (f .total) ++ valueLine "supplement" (f .supplement) ++ afterSupplement f
+first-three f loans e = rw (← signed-whole loans, ← e)
+    (parted (valueLine "loans" (unsigned (f .loans)) ++ valueLine "total" (f .total) ++ valueLine "supplement" (f .supplement))
+    (valueLine "home" (unsigned (f .home))) (valueLine "moved" (unsigned (f .moved))) (valueLine "rest" (unsigned (f .rest)))
+    (valueLine "oper" (unsigned (f .oper))))
+  where
+    parted : (a b c d e : List ℕ) → (a ++ b ++ c) ++ (d ++ e) ≡ a ++ (b ++ c ++ d ++ e)
+    parted a b c d e = simp append-assoc
+
+-- the report counts the loans taken
+loans-counted : (t : Terms) (kept : List (List ℕ)) → figuresFor t kept .loans ≡ countsIn kept .loans
+unfolding figuresFor
+loans-counted t kept = ap (λ (c : Counts). c .loans) (counts t kept)
 
 -- the lines taken can be charged by their own index values
 taken-chargeable : (t : Terms) → RatesInRange (t .rates) → (kept : List (List ℕ)) → Good kept → ChargeableBasis (basisOf t kept)
@@ -255,10 +295,14 @@ measured-of t r kept h =
     let exponents = list-exponents u kept (h .settled) in
     record {
       required = f .required;
-      before = headText f ++ (valueLine "rest" (unsigned (f .rest)) ++ valueLine "oper" (unsigned (f .oper)));
+      required-is = refl;
+      before = beforeRequired f;
       after = valueLine "capital" (f .capital) ++ ratioLine (f .ratio);
       line-eight = rw (← signed-whole (f .required)) (eighth f);
+      seven-before = seven f .many;
       read-back = digits-value (f .required);
+      between = afterSupplement f;
+      first-three = first-three f (countsIn kept .loans) (loans-counted t kept);
       not-below = at-every-order (requirement t kept) (λ v. v ≼ whole (f .required)) exponents
           (mapped (λ m n. (n .proper, n .not-below)) (near-taken t r kept h));
       close = at-every-order (requirement t kept) (λ v. whole (f .required) ≺ v ⊕ allowance (countsIn kept .loans)) exponents

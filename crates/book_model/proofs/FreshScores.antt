@@ -62,7 +62,7 @@ counts-permuted t {lines} {others} p =
     sym (counts t lines) ∙ ap₂ withIndexed (λ i. sums-permuted t p i .counts) (sum-permuted indexLine p) ∙ counts t others
 
 -- what a history was opened with
-opened-with : (past : History) → termsOf past ≡ termsFor (sheetOf past) (headerOf (headerLine past))
+pub opened-with : (past : History) → termsOf past ≡ termsFor (sheetOf past) (headerOf (headerLine past))
 unfolding termsOf sheetOf headerLine
 opened-with (opened sheet line) = refl
 opened-with (fed past line) = opened-with past
@@ -98,7 +98,7 @@ one-header past other e f held p r q =
     ∙ sym (header-bytes other f)
 
 -- The same of a list of lines after its header.
-stays : (past : History) (lines : List (List ℕ)) → (headerLine (allFed past lines) ≡ headerLine past) × (sheetOf (allFed past lines) ≡ sheetOf past)
+pub stays : (past : History) (lines : List (List ℕ)) → (headerLine (allFed past lines) ≡ headerLine past) × (sheetOf (allFed past lines) ≡ sheetOf past)
 unfolding allFed headerLine sheetOf
 stays past [] = (refl, refl)
 stays past (line ∷ lines) = stays (fed past line) lines

@@ -1,4 +1,5 @@
 pub mod AdjustedValues
+pub mod Alone
 pub mod Adjustments
 pub mod Bands
 pub mod BoundedShares
@@ -15,6 +16,7 @@ pub mod Feeding
 pub mod FreshScores
 pub mod IndexTables
 pub mod Ledger
+pub mod LineNumbers
 pub mod LineSums
 pub mod LoanNumbers
 pub mod LoanTable

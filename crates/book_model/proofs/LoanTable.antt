@@ -316,6 +316,7 @@ cell-sums t kept =
             s .plus,
             s .minus,
           );
+      balances = all-cells (g .index) (λ l. l .balance) kept;
     }
 
 -- Closing

@@ -22,6 +22,7 @@ use Rattle.book_model.specs.LineKinds.{ofMark}
 use Rattle.book_model.specs.Marks.{placeAmong, isAmong}
 use Rattle.book_model.specs.Standing.{Marks, Returns, SameBook, Standing}
 use Rattle.book_model.specs.Terms.{Terms}
+use Rattle.book_model.proofs.Alone.{alone, alone-book}
 use Rattle.book_model.proofs.Demand2.{feeding-answer}
 use Rattle.book_model.proofs.Demand3.{one-more, chain, reached, terms-stay}
 use Rattle.book_model.proofs.Ledger.{ledger-of, names-length, accepts}
@@ -129,4 +130,11 @@ again sheet header before between line back name more h k e f =
     ∙ (λ i. record { refusal = 0; state = sym (ap (λ (x : Answer). x .state) mark-fed) i })
 
 pub standing : Standing
-standing = record { most = λ past. ledger-of past .most; distinct = λ past. ledger-of past .distinct; marks = marks; again = again }
+standing = record {
+  alone = alone;
+  alone-book = alone-book;
+  most = λ past. ledger-of past .most;
+  distinct = λ past. ledger-of past .distinct;
+  marks = marks;
+  again = again;
+}

@@ -18,8 +18,8 @@ use Rattle.line_forms.specs.Readings.{lineOf}
 use Rattle.figures.specs.declared.Figures.{Figures}
 use Rattle.figures.specs.Figures.{figuresFrom}
 use Rattle.figures.specs.Sums.{zeroSigned}
-use Rattle.report.specs.Decimal.{digits, valueOf}
-use Rattle.report.specs.Line.{line, onto}
+use Rattle.report.specs.Decimal.{digits, valueOf, signed}
+use Rattle.report.specs.Line.{line, lineCount, onto}
 use Rattle.book_report.specs.Report.{reportText}
 use Rattle.book_model.specs.declared.Book.{Book}
 use Rattle.book_model.specs.declared.Closed.{Closed}
@@ -104,12 +104,21 @@ pub record LoanNumbers (g : Basis) (kept : List (List ℕ)) (f : Figures) : Type
 
 -- What holds of the loans' numbers and of the required amount of the lines taken.
 pub record Measured (t : Terms) (kept : List (List ℕ)) : Type 0 where
-  -- the number of the line `(required R)`, the eighth
+  -- the report's figure of that name, and its line `(required R)`, the eighth
   pub required : ℕ
+  pub required-is : required ≡ figuresFor t kept .required
   pub before : List ℕ
   pub after : List ℕ
   pub line-eight : reportFor t kept ≡ before ++ line (text "required") (digits required ∷ []) ++ after
+  pub seven-before : lineCount before ≡ 7
   pub read-back : valueOf (digits required) ≡ required
+  -- the first three lines: how many loans are taken, and the report's total and supplement
+  pub between : List ℕ
+  pub first-three : before ≡
+      line (text "loans") (digits (countsIn kept .loans) ∷ [])
+      ++ line (text "total") (signed (figuresFor t kept .total) ∷ [])
+      ++ line (text "supplement") (signed (figuresFor t kept .supplement) ∷ [])
+      ++ between
   -- never below the exact requirement, and above it by less than one and a half cents for each loan taken plus 3 cents (02, L7)
   pub not-below : AtMost (requirement t kept) (whole required)
   pub close : ExceedsByLess (requirement t kept) (allowance (countsIn kept .loans)) (whole required)
@@ -118,7 +127,7 @@ pub record Measured (t : Terms) (kept : List (List ℕ)) : Type 0 where
   -- some order is allowed, and no exponent of the requirement is left out of its list
   pub orders : SomeAllowed (requirement t kept .exponents)
   pub determined : Determined (requirement t kept)
-  -- and total and supplement, the second and third line
+  -- and so total and supplement by the loans' numbers
   pub loans : LoanNumbers (basisOf t kept) kept (figuresFor t kept)
 
 -- Two closings that write: lengths and bytes are the same, whatever the buffers' sizes and contents.

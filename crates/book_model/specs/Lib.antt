@@ -11,6 +11,7 @@ pub mod FreshScores
 pub mod History
 pub mod HouseIndex
 pub mod LineKinds
+pub mod LineNumbers
 pub mod LoanTable
 pub mod Marks
 pub mod OwnFactors

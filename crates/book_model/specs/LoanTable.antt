@@ -84,6 +84,8 @@ pub record CellSums (t : Terms) (kept : List (List ℕ)) : Type 0 where
   pub counts : overCells (λ band ltv. cellFor t kept band ltv .count) ≡ figuresFor t kept .loans
   pub charges : overCells (λ band ltv. cellFor t kept band ltv .charge .plus) + figuresFor t kept .total .minus ≡
       overCells (λ band ltv. cellFor t kept band ltv .charge .minus) + figuresFor t kept .total .plus
+  -- and the balances to those of all loans taken
+  pub balances : overCells (λ band ltv. cellFor t kept band ltv .balance) ≡ sumBy (λ c. ofLoan (λ l. l .balance) 0 c) kept
 
 -- The second closing of a state under terms t with the lines `a` taken writes their 60 lines.
 abbrev pub WritesCells : Terms → Accepted → State → Type 0

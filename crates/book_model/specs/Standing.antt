@@ -2,14 +2,14 @@
 use Prim.Native.Nat.{ℕ, _≤_, _<_}
 use mathlib.Core.Path.{_≡_}
 use mathlib.Core.Bool.{true, false}
-use mathlib.Core.List.{List, _++_}
+use mathlib.Core.List.{List, [], _++_}
 use lib.ListN.{length, getD}
 use Rattle.line_forms.specs.declared.Content.the-variants.{Mark as mark}
 use Rattle.line_forms.specs.Claims.{ShowsInRange}
 use Rattle.book_model.specs.Accepted.{Note, noNote}
 use Rattle.book_model.specs.Calls.{State, opening, feeding}
 use Rattle.book_model.specs.Demand3.{afterLines}
-use Rattle.book_model.specs.History.{History, opened, fed, allFed, acceptedOf}
+use Rattle.book_model.specs.History.{History, opened, fed, allFed, headerLine, sheetOf, acceptedOf, linesTaken}
 
 -- s is the line `(mark NAME)`, or the line `(back NAME)`, of the name with this number
 abbrev pub Marks : (s : List ℕ) → (name : ℕ) → Type 0
@@ -25,7 +25,16 @@ pub record SameBook (s u : State) : Type 0 where
   pub cells : s .cells ≡ u .cells
   pub index : s .index ≡ u .index
 
+-- a book opened alike, and fed only the lines still standing
+abbrev pub standingAlone : History → History
+standingAlone past = allFed (opened (sheetOf past) (headerLine past)) (linesTaken past)
+
 pub record Standing : Type 0 where
+  -- The lines still standing, fed alone, are all taken again, in their order, and no mark is kept;
+  pub alone : (past : History) → acceptedOf (standingAlone past) ≡ record { kept = linesTaken past; notes = [] }
+  -- they give the same book as the lines that led there: so the report of the lines still standing is the one that they give by themselves.
+  pub alone-book : (sheet header : List ℕ) (lines : List (List ℕ)) →
+      SameBook (afterLines (opening sheet header .state) (linesTaken (allFed (opened sheet header) lines))) (afterLines (opening sheet header .state) lines)
   -- At most eight marks are kept, no two of them under one name.
   pub most : (past : History) → length (acceptedOf past .notes) ≤ 8
   pub distinct : (past : History) (i j : ℕ) → i < j → j < length (acceptedOf past .notes) →

@@ -5,11 +5,13 @@ use mathlib.Core.List.{List}
 use mathlib.Core.Logic.{_⊎_}
 use mathlib.Core.Path.{_≡_}
 use lib.ListN.{length, take}
+use Rattle.report.specs.Line.{Written}
 use Rattle.sheet_file.specs.declared.Numbers.{Numbers}
 use Rattle.sheet_file.specs.NumberList.{NumberText, ReadsNumbers}
 use Rattle.driver.specs.Printed.{printed}
 use Rattle.driver.specs.Program.{Settled}
 use Rattle.driver.specs.Reading.{Reading, fromStart, withBytes}
+use Rattle.capital.specs.declared.Output.{Output}
 
 -- After a read of n bytes into the buffer: the reading before with those bytes.
 pub record ReadsOn (before after : Reading) (n : ℕ) (buffer : List ℕ) : Type 0 where
@@ -26,6 +28,12 @@ pub record Reached (sheet : List ℕ) (s : Reading) (n : ℕ) : Type 0 where
 -- (Program.stops of driver); n counts the bytes of the last read.
 pub record EndsReading (s : Reading) (n : ℕ) (more failed : Bool) : Type 0 where
   pub ends : more ≡ false → (failed ≡ true) ⊎ (n ≡ 0) ⊎ Settled s
+
+-- What reading a book to its end left in the buffer: what is printed of some input under the sheet, from the buffer's start, and its length is
+-- told; where a read failed, nothing.
+pub record Answered (asked : Bool) (sheet before : List ℕ) (r : Output) (after : List ℕ) : Type 0 where
+  pub prints : r .failed ≡ false → (input : List ℕ) × Written before (printed asked sheet input) (r .count) after
+  pub fails : r .failed ≡ true → after ≡ before
 
 -- The numbers of some bytes, where a sheet could be read.
 abbrev pub SheetRead : Numbers → (out : List ℕ) → Type 0

@@ -1,14 +1,14 @@
 // The mortgage capital book: reads a book from standard input and prints its report, with the word `cells` also its table of loans by score
 // and loan-to-value, or its refusal. With the words `sheet FILE` the book is under the credit factors of that file.
-ghost use mathlib.Core.Bool.{true, false};
-ghost use mathlib.Core.Logic.{_↔_};
+ghost use mathlib.Core.Bool.{false};
 ghost use mathlib.Core.Path.{_≡_};
-ghost use Prim.Native.Nat.{_+_, _^_, _≤_};
+ghost use Prim.Native.Nat.{_+_, _^_, _≤_, _<_};
 ghost use lib.ListN.{length};
-ghost use Rattle.exact.specs.Text.{text};
 ghost use Rattle.loan_charge.specs.Tables.{exponentials};
+ghost use Rattle.book_model.specs.Calls.{reportSize, cellsSize};
 ghost use Rattle.driver.specs.Reading.{readingOf, Running};
-ghost use Rattle.capital.specs.Reads.{ReadsOn, Reached, EndsReading, SheetRead};
+ghost use Rattle.capital.specs.Reads.{ReadsOn, Reached, EndsReading, Answered, SheetRead};
+ghost use Rattle.capital.specs.Arguments.{withWord};
 use cell_report::Cells;
 use driver::Run;
 use house_index::Index;
@@ -112,15 +112,24 @@ fn read_all(
     }
 }
 
-// Reads a book and prints what is to be printed of it under a sheet of factors, with the table of cells where it is asked for.
-fn print(asked: bool, sheet: &[u64]) {
+// How many bytes are to be written, and whether a read failed.
+struct Output {
+    count: usize,
+    failed: bool,
+}
+
+// Reads a book to its end, under a sheet of factors, and leaves in the buffer what is to be printed of it, with the table of cells where it is
+// asked for.
+fn answer(asked: bool, sheet: &[u64], out: &mut [u8]) -> Output
+    requires { ⌜ reportSize + cellsSize ≤ length (now out) ⌝ }
+    ensures { λ r. ⌜ Answered asked (now (sheet .entry)) (now (out .entry)) r (now (out .exit)) ⌝ }
+{
     let exps = loan_charge::charge::table();
     let mut rates = [0u64; loan_charge::credit::RATES];
     let mut cells = [0u64; cell_report::PLACES];
     let mut index = [0u64; house_index::PLACES];
     let mut marks = marks::none();
     let mut buf = io::large_buffer();
-    let mut out = [0u8; OUT];
     let turn = read_all(
         &exps,
         sheet,
@@ -131,11 +140,13 @@ fn print(asked: bool, sheet: &[u64]) {
         &mut buf,
     );
     if turn.failed {
-        io::write_all(2, b"capital: reading standard input failed\n");
-        return;
+        return Output {
+            count: 0,
+            failed: true,
+        };
     }
     let run = turn.run;
-    let n = driver::finish(
+    let count = driver::finish(
         run,
         &exps,
         sheet,
@@ -144,8 +155,23 @@ fn print(asked: bool, sheet: &[u64]) {
         &mut index,
         &mut marks,
         asked,
-        &mut out,
+        out,
     );
+    Output {
+        count,
+        failed: false,
+    }
+}
+
+// Prints it.
+fn print(asked: bool, sheet: &[u64]) {
+    let mut out = [0u8; OUT];
+    let done = answer(asked, sheet, &mut out);
+    if done.failed {
+        io::write_all(2, b"capital: reading standard input failed\n");
+        return;
+    }
+    let n = done.count;
     if !io::write_all(1, &out[0..n]) {
         io::write_all(2, b"capital: writing standard output failed\n");
     }
@@ -211,45 +237,40 @@ struct Words {
     next: usize,
 }
 
-// Whether a word is `cells`.
-fn is_cells(word: &[u8]) -> bool
-    ensures { λ r. ⌜ (r ≡ true) ↔ (now (word .entry) ≡ text "cells") ⌝ }
+// One word more, `more` where another follows it. Each is understood once, and `sheet` with the word after it.
+fn understood(words: Words, word: &[u8], more: bool) -> Words
+    requires { ⌜ words .next < 2 ^ 32 ⌝ }
+    ensures { λ r. ⌜ r ≡ withWord words (now (word .entry)) more ⌝ }
 {
-    line_fields::same(word, b"cells")
+    if line_fields::same(word, b"cells") & !words.cells {
+        return Words {
+            cells: true,
+            file: words.file,
+            next: words.next + 1,
+        };
+    }
+    if line_fields::same(word, b"sheet") & (words.file == 0) & more {
+        return Words {
+            cells: words.cells,
+            file: words.next + 1,
+            next: words.next + 2,
+        };
+    }
+    words
 }
 
-// Whether a word is `sheet`.
-fn is_sheet(word: &[u8]) -> bool
-    ensures { λ r. ⌜ (r ≡ true) ↔ (now (word .entry) ≡ text "sheet") ⌝ }
+// The next word is read, where the program has so many arguments. One of more than 16 bytes is none that is understood.
+fn read_word(words: Words, arguments: usize) -> Words
+    requires { ⌜ words .next < 2 ^ 32 ⌝ }
+    ensures { λ r. ⌜ r .next ≤ words .next + 2 ⌝ }
 {
-    line_fields::same(word, b"sheet")
-}
-
-// One more of them, where the program has so many arguments. Each is understood once, and `sheet` with a word after it.
-fn understood(words: Words, arguments: usize) -> Words {
     let at = words.next;
     if arguments <= at {
         return words;
     }
     let mut word = [0u8; 16];
     let n = os::arg(at, &mut word);
-    if is_cells(&word[0..n]) & !words.cells {
-        return Words {
-            cells: true,
-            file: words.file,
-            next: at + 1,
-        };
-    }
-    if is_sheet(&word[0..n]) & (words.file == 0) {
-        if 2 <= arguments - at {
-            return Words {
-                cells: words.cells,
-                file: at + 1,
-                next: at + 2,
-            };
-        }
-    }
-    words
+    understood(words, &word[0..n], at + 1 < arguments)
 }
 
 fn main() {
@@ -259,8 +280,8 @@ fn main() {
         file: 0,
         next: 1,
     };
-    let first = understood(none, arguments);
-    let words = understood(first, arguments);
+    let first = read_word(none, arguments);
+    let words = read_word(first, arguments);
     if words.next < arguments {
         io::write_all(
             2,

@@ -7,11 +7,11 @@ use native.Mathlib.Omega.{arith}
 use native.Mathlib.Numerals.{add-one}
 use lib.ListN.{length, getD, length-append}
 use Rattle.exact.specs.Text.{text}
-use Rattle.report.specs.Decimal.{leading, digits, signed}
+use Rattle.report.specs.Decimal.{digits, signed}
 use Rattle.report.proofs.Decimal.{digits-length, signed-length}
 use Rattle.report.proofs.Lines.{line-length, spaced-length}
 use Rattle.cell_report.specs.declared.Cell.{Cell}
-use Rattle.cell_report.specs.CellReport.{cellLine, cellText, bandText, bandsText, cellsText, placeOf, cellAt}
+use Rattle.cell_report.specs.CellReport.{cellLine, cellText, bandText, bandsText, cellsText, cellAt}
 
 -- one band more
 pub bands-more : (at : ℕ → ℕ → Cell) (n : ℕ) → bandsText at (n + 1) ≡ bandsText at n ++ bandText at (n + 1)
@@ -99,9 +99,3 @@ bands-most cells small (suc n) h =
 
 pub cells-fit : (cells : List ℕ) → ((i : ℕ) → getD cells i 0 < 2 ^ 64) → length (cellsText (cellAt cells)) ≤ 8192
 cells-fit cells small = omega (arith, bands-most cells small 12 (omega arith))
-
-pub examples :
-    (cellLine 12 5 (record { count = 3; balance = 4075; charge = record { plus = 7; minus = 19 } }) ≡ text "(cell 12 5 3 4075 -12)\n")
-    × (placeOf 12 5 ≡ 236)
-unfolding leading digits signed
-examples = (refl, refl)

@@ -1,1 +1,2 @@
 pub mod CellReport
+pub mod Examples

@@ -3,3 +3,4 @@ pub mod Law
 pub mod LineLaws
 pub mod Program
 pub mod Runs
+pub mod InputLines

@@ -9,6 +9,8 @@ use lib.ListN.{length, take, getD, length-append, List·getD-append}
 use lib.Seq.{take-at, take-append-le, getD-at}
 use borrow.Author.Tests.{ltb-true, ltb-false, eqb-true, eqb-false, eq-eqb}
 use Rattle.exact.specs.Choice.{pick}
+use Rattle.exact.specs.Decimal.{leading, digits}
+use Rattle.exact.specs.Text.{text}
 use Rattle.report.specs.Line.{refusalLine}
 use Rattle.loan_charge.specs.CreditFactor.{builtInSheet}
 use Rattle.line_forms.specs.declared.MarkLine.{MarkLine}
@@ -253,5 +255,16 @@ worked : printed false builtInSheet workedInput ≡ workedReport
 worked =
     ap (printedLines false builtInSheet) worked-lines ∙ reported builtInSheet workedHeader false workedLines worked-reports ∙ twelve .example12
 
+empty : (asked : Bool) (sheet : List ℕ) → printed asked sheet [] ≡ text "(refused 2 1)\n"
+unfolding printedLines linesFrom lastOf digits leading
+empty asked sheet = refl
+
 pub program : Program
-program = record { prints = λ asked sheet input. outcome asked sheet (linesOf input); alike = alike; unmarked = unmarked; stops = stops; worked = worked }
+program = record {
+  prints = λ asked sheet input. outcome asked sheet (linesOf input);
+  alike = alike;
+  unmarked = unmarked;
+  stops = stops;
+  empty = empty;
+  worked = worked;
+}

@@ -1,3 +1,4 @@
 pub mod Reading
 pub mod Printed
 pub mod Program
+pub mod InputLines

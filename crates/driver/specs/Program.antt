@@ -94,5 +94,7 @@ pub record Program : Type 0 where
   -- The program may stop reading there.
   pub stops : (asked : Bool) (sheet input more : List ℕ) → Settled (withBytes (fromStart sheet) input) →
       printed asked sheet (input ++ more) ≡ printed asked sheet input
+  -- 01: "Empty input prints `(refused 2 1)`", as text.
+  pub empty : (asked : Bool) (sheet : List ℕ) → printed asked sheet [] ≡ text "(refused 2 1)\n"
   -- Document 01's worked input prints its report, and nothing else where no table is asked for.
   pub worked : printed false builtInSheet workedInput ≡ workedReport

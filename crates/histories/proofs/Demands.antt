@@ -13,7 +13,7 @@ use Rattle.book_model.specs.declared.Closed.{Closed}
 use Rattle.book_model.specs.declared.Fed.{Fed}
 use Rattle.book_model.specs.declared.Opened.{Opened}
 use Rattle.book_model.specs.Accepted.{Accepted, countsIn, refusalOf}
-use Rattle.book_model.specs.Calls.{State, Answer, stateAt, termsIn, openedOf, fedOf, opening, feeding, closing, closed, closingCells, Sound}
+use Rattle.book_model.specs.Calls.{State, Answer, stateAt, termsIn, openedOf, fedOf, opening, feeding, closing, closed, closingCells, SoundBook, Sound}
 use Rattle.book_model.specs.Calls.{reportSize, cellsSize, closedCells}
 use Rattle.book_model.specs.Demand2.{IsReturn}
 use Rattle.book_model.specs.Demand3.{Writes, Closes, SameTexts, SameReports}
@@ -25,6 +25,7 @@ use Rattle.book_model.specs.Marks.{namesIn}
 use Rattle.book_model.specs.Standing.{SameBook}
 use Rattle.book_model.specs.Terms.{Terms, basisOf, under}
 use Rattle.book_model.proofs.AdjustedValues.{adjusted-values}
+use Rattle.book_model.proofs.Alone.{alone, alone-state}
 use Rattle.book_model.proofs.Demand1.{demand1}
 use Rattle.book_model.proofs.Demand2.{openings, feeding-answer, closing-answer}
 use Rattle.book_model.proofs.Demand3.{opened-is, fed-is, terms-in-range, closes-of, measured-of, same-reports}
@@ -41,6 +42,7 @@ use Rattle.histories.specs.Demands.{CallsDemand1, CallsDemand2, CallsDem
 use Rattle.histories.specs.Demands.{CallsFreshScores, CallsStanding}
 use Rattle.histories.specs.Given.{OpeningCall, by-open, by-open-sheet, FeedingCall, by-feed, by-feed-with, CloseCall, CellsCall}
 use Rattle.histories.specs.Given.{Given, by-opening, by-feeding}
+use Rattle.histories.specs.Asked.{CallsAsked}
 
 -- What each call gave, by its contract
 
@@ -270,6 +272,8 @@ pub calls-standing : CallsStanding
 calls-standing = record {
   names = λ {h} {s} g. ap (λ (x : State). namesIn (x .marks)) (given g) ∙ names-are (termsOf h) (acceptedOf h .notes);
   most = λ {h} {s} g. standing .most h;
+  alone = λ {h} {k} {s} {u} g f e.
+      (ap linesTaken e ∙ ap (λ (a : Accepted). a .kept) (alone h), rw (given f, given g, e) (alone-state h));
   marks = λ {s} {line} {a} c name m. subst (λ (x : Answer). SameBook (x .state) s) (sym (fed-by c)) (marks s line name m);
   again = λ {h} {k} {s} {u} g {line} {a} c e name m f t more n {back} {b} r d.
       let gave : a ≡ record { refusal = refusalOf (termsOf h) (acceptedOf h) line; state = stateOf (termsOf h) (acceptedOf (fed h line)) } =
@@ -277,4 +281,14 @@ calls-standing = record {
       let zero = sym (ap (λ (x : Answer). x .refusal) gave) ∙ e in
       let back-gave = fed-by d ∙ ap (λ (x : State). feeding x back) (given f) ∙ returned-to h k line back name more t m r zero n in
       (ap (λ (x : Answer). x .refusal) back-gave, ap (λ (x : Answer). x .state) back-gave ∙ sym (ap (λ (x : Answer). x .state) gave));
+}
+
+pub calls-asked : CallsAsked
+calls-asked = record {
+  opening = λ lifetimes args. tt;
+  opening-sheet = λ lifetimes args. tt;
+  closing-cells = λ lifetimes args. tt;
+  feeding = λ g lifetimes args e. subst Sound (sym e) (sound g);
+  feeding-with = λ g lifetimes args e f. (subst Sound (sym e) (sound g), f);
+  closing = λ g lifetimes args e. subst SoundBook (sym e) (sound g .book);
 }

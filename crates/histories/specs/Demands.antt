@@ -25,7 +25,7 @@ use Rattle.book_model.specs.History.{History, fed, headerLine, sheetOf, termsOf
 use Rattle.book_model.specs.HouseIndex.{InTable, valuesAt}
 use Rattle.book_model.specs.LoanTable.{cellFor, cellsFor, CellSums}
 use Rattle.book_model.specs.Marks.{namesIn}
-use Rattle.book_model.specs.Standing.{Marks, Returns, SameBook}
+use Rattle.book_model.specs.Standing.{Marks, Returns, SameBook, standingAlone}
 use Rattle.book_model.specs.Terms.{underSheet, factorFor}
 use Rattle.histories.specs.Given.{OpenCall, OpenSheetCall, OpeningCall, FeedingCall, CloseCall, CellsCall, Given}
 
@@ -143,6 +143,8 @@ pub record CallsStanding : Type 0 where
   -- The table lent keeps the names noted, in the order set, at most eight, and 0 in the rows without a mark.
   pub names : {h : History} {s : State} → Given h s → namesIn (s .marks) ≡ namesOf (acceptedOf h .notes) ++ replicate (8 - length (acceptedOf h .notes)) 0
   pub most : {h : History} {s : State} → Given h s → length (acceptedOf h .notes) ≤ 8
+  -- The lines still standing, fed alone to a book opened alike, are all taken again, and give the same book.
+  pub alone : {h k : History} {s u : State} → Given h s → Given k u → k ≡ standingAlone h → (linesTaken k ≡ linesTaken h) × SameBook u s
   -- A mark leaves the book as it is.
   pub marks : {s : State} {line : List ℕ} {a : Answer} → FeedingCall s line a → (name : ℕ) → Marks line name → SameBook (a .state) s
   -- A return to it is taken and makes book and marks as they were, by whatever calls a book under the same terms came to be, as long as the

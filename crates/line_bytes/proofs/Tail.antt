@@ -2,12 +2,12 @@
 use mathlib.Core.Path.{_≡_, refl, sym, _∙_, ap}
 use mathlib.Core.Bool.{Bool, true, false, _&&_}
 use mathlib.Core.List.{List, [], _∷_, _++_, append-assoc, append-nil}
-use Prim.Native.Nat.{ℕ, _+_, _≤_, _<_}
+use Prim.Native.Nat.{ℕ, _+_, _-_, _≤_, _<_}
 use native.Mathlib.Omega.{arith}
 use native.Mathlib.Numerals.{add-one}
 use lib.Dec.{ltb}
 use lib.ListN.{length, take, drop, set, getD, length-append, take-append-drop}
-use lib.Seq.{take-suc, take-suc-set, take-all, take-append-le, length-take-le, take-take}
+use lib.Seq.{take-suc, take-suc-set, take-all, take-append-le, length-take-le, take-take, drop-drop}
 use borrow.Author.Tests.{ltb-true, ltb-false}
 use Rattle.line_bytes.specs.LineBytes.{unbroken, withTail}
 use Rattle.line_bytes.proofs.FirstNewline.{unbroken-append}
@@ -45,6 +45,12 @@ pub tail-full : (tail : List ℕ) (held byte : ℕ) → held ≡ 241 → length 
 tail-full tail held byte h e =
     let n : length (take held tail) ≡ held = length-take-le held tail (omega arith) in
     rw (take-append-le 241 (take held tail) (byte ∷ []) (omega arith)) (sym (take-all 241 (take held tail) (omega arith)))
+
+-- lists that are alike after n bytes are alike after more
+pub rest-later : (a b : List ℕ) (n r : ℕ) → n ≤ r → drop n a ≡ drop n b → drop r a ≡ drop r b
+rest-later a b n r h e =
+    let k : n + (r - n) ≡ r = omega arith in
+    ap (λ (m : ℕ). drop m a) (sym k) ∙ sym (drop-drop (r - n) n a) ∙ ap (drop (r - n)) e ∙ drop-drop (r - n) n b ∙ ap (λ (m : ℕ). drop m b) k
 
 -- what is held of an unbroken line and unbroken bytes is unbroken
 unbroken-front : (n : ℕ) (s : List ℕ) → unbroken s ≡ true → unbroken (take n s) ≡ true

@@ -4,7 +4,7 @@ pub mod newlines;
 ghost use mathlib.Core.Path.{_≡_};
 ghost use mathlib.Core.List.{[], _∷_};
 ghost use Prim.Native.Nat.{_≤_};
-ghost use lib.ListN.{length, take};
+ghost use lib.ListN.{length, take, drop};
 ghost use Rattle.line_bytes.specs.LineBytes.{mostHeld, withTail};
 
 // So many bytes of a line not yet ended are held: beyond 240 a line is refused whatever they are.
@@ -19,7 +19,8 @@ pub type Tail = [u8; TAIL];
 fn keep(tail: &mut [u8], held: usize, byte: u8) -> usize
     requires { ⌜ (held ≤ mostHeld) × (length (now tail) ≡ 242) ⌝ }
     ensures equation { λ r. ⌜ take r (now (tail .exit)) ≡ withTail (take held (now (tail .entry))) (byte ∷ []) ⌝ }
-    ensures few { λ r. ⌜ r ≤ mostHeld ⌝ }
+    ensures few { λ r. ⌜ (held ≤ r) × (r ≤ mostHeld) ⌝ }
+    ensures rest { λ r. ⌜ drop r (now (tail .exit)) ≡ drop r (now (tail .entry)) ⌝ }
 {
     if held < MOST_HELD {
         tail[held] = byte;
@@ -28,11 +29,12 @@ fn keep(tail: &mut [u8], held: usize, byte: u8) -> usize
     held
 }
 
-// Bytes are added to a line not yet ended.
+// Bytes are added to a line not yet ended. What lies after them in `tail` stays.
 pub fn hold(tail: &mut [u8], held: usize, bytes: &[u8]) -> usize
     requires { ⌜ (held ≤ mostHeld) × (length (now tail) ≡ 242) ⌝ }
     ensures equation { λ r. ⌜ take r (now (tail .exit)) ≡ withTail (take held (now (tail .entry))) (now (bytes .entry)) ⌝ }
     ensures few { λ r. ⌜ r ≤ mostHeld ⌝ }
+    ensures rest { λ r. ⌜ drop r (now (tail .exit)) ≡ drop r (now (tail .entry)) ⌝ }
 {
     let mut n = held;
     let mut i = 0;

@@ -16,3 +16,4 @@ pub mod Positions
 pub mod Readers
 pub mod ScoreLaws
 pub mod Sizes
+pub mod RangeEnds

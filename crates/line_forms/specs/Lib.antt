@@ -7,3 +7,4 @@ pub mod Names
 pub mod Numerals
 pub mod Parsing
 pub mod Readings
+pub mod RangeEnds

@@ -9,3 +9,4 @@ pub mod Near
 pub mod Promise
 pub mod ScaledValue
 pub mod Sizes
+pub mod Words

@@ -4,3 +4,4 @@ pub mod CreditFactor
 pub mod Examples
 pub mod Promise
 pub mod Tables
+pub mod Words

@@ -36,9 +36,3 @@ signed-length k v p q = go (sign v)
     go : (v .plus < v .minus) ⊎ (v .minus ≤ v .plus) → length (signed v) ≤ k + 2
     go (inl h) = rw (signed-negative v h) (omega (arith, digits-length k (v .minus - v .plus) (omega arith)))
     go (inr h) = rw (signed-positive v h) (omega (arith, digits-length k (v .plus - v .minus) (omega arith)))
-
-pub examples :
-    (digits 0 ≡ text "0") × (digits 1075 ≡ text "1075") × (signed (record { plus = 7; minus = 1207 }) ≡ text "-1200")
-    × (signed (record { plus = 5; minus = 5 }) ≡ text "0")
-unfolding leading digits signed
-examples = (refl, refl, refl, refl)

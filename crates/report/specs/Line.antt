@@ -1,8 +1,10 @@
 -- A printed line, and text written into a buffer.
-use Prim.Native.Nat.{ℕ, _+_}
+use Prim.Native.Nat.{ℕ, suc, _+_}
 use mathlib.Core.Path.{_≡_}
 use mathlib.Core.List.{List, [], _∷_, _++_}
+use lib.Dec.{eqb}
 use lib.ListN.{length, take, drop}
+use Rattle.exact.specs.Choice.{pick}
 use Rattle.exact.specs.Text.{text}
 use Rattle.report.specs.Decimal.{digits}
 
@@ -18,6 +20,11 @@ line name fields = text "(" ++ name ++ spaced fields ++ text ")\n"
 -- 01: `(refused N L)`
 abbrev pub refusalLine : ℕ → ℕ → List ℕ
 refusalLine refusal number = line (text "refused") (digits refusal ∷ digits number ∷ [])
+
+-- how many lines a text has that end in it
+unfoldable pub lineCount : List ℕ → ℕ
+lineCount [] = 0
+lineCount (byte ∷ bytes) = pick (eqb byte 10) (suc (lineCount bytes)) (lineCount bytes)
 
 -- the buffer `old` with t written from its start; the bytes after t stay
 unfoldable pub onto : List ℕ → List ℕ → List ℕ

@@ -1,23 +1,23 @@
 -- Laws of the reader's loop: what it has read and stored at a position. Assumes nothing.
-use Prim.Native.Nat.{ℕ, _+_, _≤_, _<_, min}
+use Prim.Native.Nat.{ℕ, zero, suc, _+_, _≤_, _<_, min}
+use mathlib.Core.Bool.{true, false, true≢false}
 use native.Mathlib.Decide.{decLt}
 use native.Mathlib.Numerals.{add-one}
 use native.Mathlib.Omega.{arith}
 use mathlib.Core.List.{List, [], _∷_, _++_, append-nil, append-assoc}
 use mathlib.Core.Path.{_≡_, refl, sym, _∙_, ap}
-use borrow.Author.Tests.{eq-eqb, eqb-true, lt-ltb, le-ltb}
-use lib.Dec.{eqb}
-use lib.ListN.{length, take, drop, set, length-append, length-set, length-drop, drop-of-length-le}
-use lib.Seq.{take-all, take-suc-set, take-append-le}
+use borrow.Author.Tests.{lt-ltb, le-ltb}
+use lib.ListN.{length, getD, replicate, take, drop, set, length-append, length-set, length-drop, drop-of-length-le}
+use lib.Seq.{take-all, take-suc-set, take-append-le, getD-set-other}
 use Rattle.line_forms.specs.Parsing.{numberAt}
 use Rattle.sheet_file.specs.declared.Numbers.{Numbers}
-use Rattle.sheet_file.specs.NumberList.{NumberText, none, most, ReadsNumbers}
+use Rattle.sheet_file.specs.NumberList.{NumberText, none, most, ZeroFrom, ReadsNumbers}
 use Rattle.sheet_file.specs.Reading.{putAfter, countAfter}
 use Rattle.sheet_file.proofs.NumberTexts.{nextAt, Left, empty-text, taken, put-first}
 
--- `count` of `out` are the numbers read, the first 67 of them where they are more
+-- `count` of `out` are the numbers read, the first 67 of them where they are more, and the rest is 0
 pub record Stored (out : List ℕ) (count : ℕ) (numbers : List ℕ) : Type 0 where
-  pub room : length out ≡ most
+  pub rest : ZeroFrom count out
   pub many : count ≡ min most (length numbers)
   pub same : take count out ≡ take most numbers
 
@@ -31,11 +31,14 @@ stored-next {out} {count} {numbers} n s = elim (decLt count most) [ yes l ↦ mo
         let k : length numbers ≡ count = omega (arith, s .many) in
         let a : length (numbers ++ (n ∷ [])) ≡ count + 1 = length-append numbers (n ∷ []) ∙ omega arith in
         let e : take (count + 1) (set out count n) ≡ take count out ++ (n ∷ []) =
-        rw (add-one count) (take-suc-set out count n (omega (arith, s .room))) in
+        rw (add-one count) (take-suc-set out count n (omega (arith, s .rest .room))) in
         let f : take count out ≡ numbers = s .same ∙ take-all most numbers (omega arith) in
         rw (lt-ltb count most l)
         (record {
-          room = length-set out count n ∙ s .room;
+          rest = record {
+            room = length-set out count n ∙ s .rest .room;
+            zero = λ i h. getD-set-other out count i n 0 (λ e. omega (arith, e, h)) ∙ s .rest .zero i (omega arith);
+          };
           many = omega arith;
           same = e ∙ rw f (sym (take-all most (numbers ++ (n ∷ [])) (omega arith)));
         })
@@ -44,7 +47,7 @@ stored-next {out} {count} {numbers} n s = elim (decLt count most) [ yes l ↦ mo
     full l =
         rw (le-ltb count most (omega arith))
         (record {
-          room = s .room;
+          rest = s .rest;
           many = omega (arith, s .many, length-append numbers (n ∷ []));
           same = s .same ∙ sym (take-append-le most numbers (n ∷ []) (omega (arith, s .many)));
         })
@@ -57,12 +60,12 @@ pub record Reading (bytes out : List ℕ) (at count : ℕ) : Type 0 where
   pub stored : Stored out count done
 
 -- before the first number
-pub reading-start : (bytes : List ℕ) {out : List ℕ} → length out ≡ most → Reading bytes out 0 0
+pub reading-start : (bytes : List ℕ) {out : List ℕ} → ZeroFrom 0 out → Reading bytes out 0 0
 reading-start bytes e = record {
   done = [];
   onward = λ rest h t. t;
   back = λ numbers t. record { inside = omega arith; rest = numbers; split = refl; text = t };
-  stored = record { room = e; many = refl; same = refl };
+  stored = record { rest = e; many = refl; same = refl };
 }
 
 -- one number more, with what follows it
@@ -84,23 +87,46 @@ pub reading-next : {bytes out store : List ℕ} {at count n next many : ℕ} →
     n ≡ numberAt bytes at → next ≡ nextAt bytes at → many ≡ countAfter count → store ≡ putAfter out count n → Reading bytes store next many
 reading-next r h n e k p = rw (p, k, e, n) (next-of r h)
 
--- at the end of the bytes, or past it, nothing is left to read
-pub reading-end : {bytes out : List ℕ} {at count : ℕ} → Reading bytes out at count → length bytes ≤ at →
-    ReadsNumbers bytes (record { count = count; good = eqb at (length bytes) }) out
+-- at the end of the bytes nothing is left to read
+pub reading-end : {bytes out : List ℕ} {at count : ℕ} → Reading bytes out at count → at ≡ length bytes →
+    ReadsNumbers bytes (record { count = count; good = true }) out
 reading-end {bytes} {out} {at} {count} r h = record {
-  good = (
-    λ e. (r .done ++ [], r .onward [] (omega (arith, eqb-true at (length bytes) e)) (rw (drop-of-length-le bytes h) none)),
-    λ x. eq-eqb at (length bytes) (omega (arith, r .back (x .0) (x .1) .inside)),
-  );
+  good = (λ e. (r .done ++ [], r .onward [] (omega arith) (rw (drop-of-length-le bytes {i = at} (omega arith)) none)), λ x. refl);
   count = λ numbers t. rw (all numbers t) (r .stored .many);
   stored = λ numbers t. rw (all numbers t) (r .stored .same);
-  few = omega (arith, r .stored .many, r .stored .room);
+  none = λ e. absurd (true≢false e);
+  rest = r .stored .rest;
+  few = omega (arith, r .stored .many, r .stored .rest .room);
 }
   where
     all : (numbers : List ℕ) → NumberText bytes numbers → numbers ≡ r .done
     all numbers t =
         let b = r .back numbers t in
         b .split ∙ rw (empty-text (b .text) (omega (arith, length-drop at bytes)), append-nil)
+
+-- past it the bytes are no list
+pub reading-past : {bytes out cleared : List ℕ} {at count : ℕ} → Reading bytes out at count → length bytes < at → ZeroFrom 0 cleared →
+    ReadsNumbers bytes (record { count = 0; good = false }) cleared
+reading-past {bytes} {out} {cleared} {at} r h z = record {
+  good = (λ e. absurd (true≢false (sym e)), λ x. absurd (no-list (x .0) (x .1)));
+  count = λ numbers t. absurd (no-list numbers t);
+  stored = λ numbers t. absurd (no-list numbers t);
+  none = λ e. refl;
+  rest = z;
+  few = omega arith;
+}
+  where
+    no-list : (numbers : List ℕ) → NumberText bytes numbers → ⊥
+    no-list numbers t = omega (arith, r .back numbers t .inside)
+
+-- room that is cleared
+zeros : (n i : ℕ) → getD {A = ℕ} (replicate n 0) i 0 ≡ 0
+zeros zero i = refl
+zeros (suc n) zero = refl
+zeros (suc n) (suc i) = zeros n i
+
+pub cleared : ZeroFrom 0 (replicate most 0)
+cleared = record { room = refl; zero = λ i h. zeros most i }
 
 -- Where fewer than 67 are handed out they are all.
 pub all-stored : {bytes out numbers : List ℕ} {r : Numbers} → ReadsNumbers bytes r out → NumberText bytes numbers → r .count < most →

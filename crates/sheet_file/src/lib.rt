@@ -1,7 +1,6 @@
 // A file that is a list of numbers, as a sheet of credit factors is lent (02, L3).
 ghost use mathlib.Core.Path.{_≡_};
-ghost use lib.ListN.{length};
-ghost use Rattle.sheet_file.specs.NumberList.{ReadsNumbers, most};
+ghost use Rattle.sheet_file.specs.NumberList.{ZeroFrom, ReadsNumbers};
 ghost use Rattle.sheet_file.specs.Reading.{afterSeparator, putAfter, countAfter};
 
 // One more than the 66 of a sheet, so that a longer list is told from a sheet.
@@ -34,7 +33,7 @@ fn after_separator(bytes: &[u8], at: usize) -> usize
 
 // Stored whole, so that its length is known from here on.
 fn clear(out: &mut Room)
-    ensures { λ _. ⌜ length (now (out .exit)) ≡ most ⌝ }
+    ensures { λ _. ⌜ ZeroFrom 0 (now (out .exit)) ⌝ }
 {
     *out = [0; MOST];
 }
@@ -50,7 +49,8 @@ fn put(out: &mut Room, count: usize, n: u64) -> usize
     count
 }
 
-// The numbers of a list of numbers, from the first on. A number or a separator that is missing leads past the end.
+// The numbers of a list of numbers, from the first on, and 0 after them. A number or a separator that is missing leads past the end: then the
+// bytes are no list, and none is handed out.
 pub fn numbers_in(bytes: &[u8], out: &mut Room) -> Numbers
     ensures { λ r. ⌜ ReadsNumbers (now (bytes .entry)) r (now (out .exit)) ⌝ }
 {
@@ -62,8 +62,12 @@ pub fn numbers_in(bytes: &[u8], out: &mut Room) -> Numbers
         count = put(out, count, n.value);
         at = after_separator(bytes, n.next);
     }
+    if at == bytes.len() {
+        return Numbers { count, good: true };
+    }
+    clear(out);
     Numbers {
-        count,
-        good: at == bytes.len(),
+        count: 0,
+        good: false,
     }
 }

@@ -8,24 +8,19 @@ use Rattle.capital.proofs.print.Tie as tie
 
 part-write-all-end : tie.Need-part-write-all-end
 part-write-all-end c =
-    let f = c .before .before .finish in
-    let h : f .result ≤ length (f .last .1 .1 .1 .1 .1 .1 .1 .1 .0) = written-within (f .ensures .0) in
+    let a = c .before .before .before .answer in
+    let h : a .result .count ≤ length (a .last .1 .1 .0) = written-within (a .ensures .prints (c .before .if1 .left) .1) in
     search needs
 
 pub print-spec : {M : Type 1} → statement M
 print-spec =
     tie.close
     (tie.spec
-    (λ c κs. search needs)
-    (λ c κs. search needs)
-    (λ c κs. search needs)
     (λ c. search needs)
     (λ c κs. search needs)
     (λ c. search needs)
     (λ c κs. search needs)
     (λ c. search needs)
-    (λ c. search needs)
-    (λ c κs. search needs)
     (λ c. search needs)
     (λ c. search needs)
     part-write-all-end

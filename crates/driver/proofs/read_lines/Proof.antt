@@ -27,7 +27,7 @@ returns c =
     (l .last .1 .1 .1 .1 .0) (l .last .1 .1 .1 .1 .1 .0) (l .last .1 .1 .1 .1 .1 .1 .0) (a .bytes .now) (a .before) (h .last .0) (l .result .rest) (h .result)
     (a .read) (l .ensures .0)
     (l .ensures .1 .0 .0)
-    (l .ensures .1 .0 .1) (l .ensures .1 .1 .0) (l .ensures .1 .1 .1) (start .pre .1) (h .ensures .0) (h .ensures .1)
+    (l .ensures .1 .0 .1) (l .ensures .1 .1 .0) (l .ensures .1 .1 .1) (start .pre .1) (h .ensures .0) (h .ensures .1 .0)
     (search (needs, h .kept, start .pre .4))
 
 pub read-lines-spec : {M : Type 1} → statement M

@@ -28,7 +28,7 @@ returns-2 c =
     let h = c .before .before .hold in
     all-held (a .run) (now (a .sheet)) (now (a .rates)) (now (a .cells)) (now (a .index)) (now (a .marks)) (now (a .chunk)) (start .pre .0) (e .result)
     (e .ensures .0)
-    (h .result) (h .last .0) (h .ensures .0) (h .ensures .1) (search needs) (c .if2 .taken) (e .ensures .1 .1)
+    (h .result) (h .last .0) (h .ensures .0) (h .ensures .1 .0) (search needs) (c .if2 .taken) (e .ensures .1 .1)
 
 add-from : tie.Need-add-from
 add-from c =
@@ -44,7 +44,7 @@ end-held-requires c κs =
       start .pre .0 .sound,
       omega (arith, start .pre .0 .number, start .pre .1),
       start .pre .2,
-      h .ensures .1,
+      h .ensures .1 .0,
       search needs,
       held-more (a .run) (now (a .sheet)) (now (a .rates)) (now (a .cells)) (now (a .index)) (now (a .marks)) (now (a .chunk)) (start .pre .0) (e .result)
           (e .ensures .0)

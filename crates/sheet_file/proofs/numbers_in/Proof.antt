@@ -5,7 +5,7 @@ use mathlib.Core.Path.{_≡_, _∙_}
 use lib.ListN.{length}
 use borrow.Author.Needs.{needs}
 use Rattle.sheet_file.proofs.NumberTexts.{nextAt, leads-on}
-use Rattle.sheet_file.proofs.Reading.{Reading, reading-start, reading-next, reading-end}
+use Rattle.sheet_file.proofs.Reading.{Reading, reading-start, reading-next, reading-end, reading-past}
 use Rattle.sheet_file.proofs.numbers_in.Statement.{statement}
 use Rattle.sheet_file.proofs.numbers_in.Tie as tie
 
@@ -36,7 +36,10 @@ loop-again c =
     reading-next (c .before .before .before .before .before .loop .inv) (omega arith) (c .before .before .before .number-at .ensures .0) (next c) (p .0) (p .1)
 
 returns : tie.Need-returns Inv-loop μ-loop
-returns c = reading-end (c .before .loop .inv) (omega arith)
+returns c = reading-end (c .before .before .loop .inv) (c .if1 .taken)
+
+returns-2 : tie.Need-returns-2 Inv-loop μ-loop
+returns-2 c = reading-past (c .before .before .before .before .loop .inv) (omega (arith, c .before .before .if1 .left)) (c .clear2 .ensures)
 
 pub numbers-in-spec : {M : Type 1} → statement M
 numbers-in-spec =
@@ -51,4 +54,6 @@ numbers-in-spec =
     (λ c κs. search needs)
     loop-less
     loop-again
-    returns)
+    returns
+    (λ c κs. search needs)
+    returns-2)

@@ -1,0 +1,1 @@
+// What is promised, on one page: see specs/Promises.antt. No functions.
