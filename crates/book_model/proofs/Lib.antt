@@ -1,6 +1,6 @@
 pub mod AdjustedValues
-pub mod Alone
 pub mod Adjustments
+pub mod Alone
 pub mod Bands
 pub mod BoundedShares
 pub mod Bounds

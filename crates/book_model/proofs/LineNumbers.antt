@@ -1,9 +1,8 @@
 -- The sums of capital by the lines, and what a loan is charged by. Assumes nothing.
-use Prim.Native.Nat.{ℕ, _+_}
-use mathlib.Core.Bool.{Bool, true, false}
+use Prim.Native.Nat.{ℕ}
 use mathlib.Core.List.{List, [], _∷_}
-use mathlib.Core.Path.{_≡_, refl, ap, ap₂}
-use native.Mathlib.Omega.{arith}
+use mathlib.Core.Path.{_≡_, refl, ap}
+use lib.ListN.{getD, replicate}
 use borrow.Author.Tests.{eqb-true, eq-eqb}
 use Rattle.fixed_point.specs.declared.Signed.{Signed}
 use Rattle.line_forms.specs.declared.Item.{Item}
@@ -14,79 +13,64 @@ use Rattle.line_forms.specs.declared.Content.{Content}
 use Rattle.line_forms.specs.declared.Content.the-variants.{Header as header, Loan as loan, Policy as policy, Derivative as derivative, Asset as asset}
 use Rattle.line_forms.specs.declared.Content.the-variants.{Amount as amount, Index as index, Mark as mark, NoForm}
 use Rattle.line_forms.specs.declared.Loan.{Loan}
-use Rattle.line_forms.specs.Claims.{lineContent}
-use Rattle.line_forms.specs.Readings.{lineOf}
 use Rattle.figures.specs.declared.Sums.{Sums}
-use Rattle.figures.specs.Sums.{sumOf}
-use Rattle.book_model.specs.History.{sumsBy, sumsOf}
-use Rattle.book_model.specs.LineKinds.{sumBy}
 use Rattle.book_model.specs.LineNumbers.{ofItem, CapitalSums, ChargedBy, LineNumbers}
 use Rattle.book_model.specs.Share.{share, shareWith, policyShare, derivativeShare, assetShare, amountShare}
 use Rattle.book_model.specs.Terms.{Terms, Basis, basisOf}
+use Rattle.book_model.proofs.LineSums.{sums-number}
 
--- six numbers of the sums, of a line and of lines
-record Capital (s : Sums) (f : (Item → (Signed → ℕ) → ℕ)) : Type 0 where
-  equity-plus : s .equity .plus ≡ f Equity (λ x. x .plus)
-  equity-minus : s .equity .minus ≡ f Equity (λ x. x .minus)
-  aoci-plus : s .aoci .plus ≡ f Aoci (λ x. x .plus)
-  aoci-minus : s .aoci .minus ≡ f Aoci (λ x. x .minus)
-  b : s .b ≡ f B (λ x. x .plus)
-  c : s .c ≡ f C (λ x. x .plus)
+-- the six numbers of capital in the sums, and those of a line
+abbrev capitalIn : Sums → List ℕ
+capitalIn s = s .equity .plus ∷ s .equity .minus ∷ s .aoci .plus ∷ s .aoci .minus ∷ s .b ∷ s .c ∷ []
 
-of-policy : (class : Class) (premium term completed : ℕ) → Capital (policyShare class premium term completed) (λ i g. 0)
+abbrev capitalBy : Content → List ℕ
+capitalBy d =
+    ofItem Equity (λ x. x .plus) d ∷ ofItem Equity (λ x. x .minus) d ∷ ofItem Aoci (λ x. x .plus) d ∷ ofItem Aoci (λ x. x .minus) d ∷
+    ofItem B (λ x. x .plus) d ∷ ofItem C (λ x. x .plus) d ∷ []
+
+of-policy : (class : Class) (premium term completed : ℕ) → capitalIn (policyShare class premium term completed) ≡ replicate 6 0
 unfolding policyShare
-of-policy Home premium term completed = record { equity-plus = refl; equity-minus = refl; aoci-plus = refl; aoci-minus = refl; b = refl; c = refl }
-of-policy Multi premium term completed = record { equity-plus = refl; equity-minus = refl; aoci-plus = refl; aoci-minus = refl; b = refl; c = refl }
+of-policy Home premium term completed = refl
+of-policy Multi premium term completed = refl
 
-of-amount : (i : Item) (x : Signed) → Capital (amountShare i x) (λ j g. ofItem j g (amount (record { item = i; amount = x })))
+of-amount : (i : Item) (x : Signed) → capitalIn (amountShare i x) ≡ capitalBy (amount (record { item = i; amount = x }))
 unfolding amountShare
-of-amount Claims x = record { equity-plus = refl; equity-minus = refl; aoci-plus = refl; aoci-minus = refl; b = refl; c = refl }
-of-amount Lossc x = record { equity-plus = refl; equity-minus = refl; aoci-plus = refl; aoci-minus = refl; b = refl; c = refl }
-of-amount Stated x = record { equity-plus = refl; equity-minus = refl; aoci-plus = refl; aoci-minus = refl; b = refl; c = refl }
-of-amount Equity x = record { equity-plus = refl; equity-minus = refl; aoci-plus = refl; aoci-minus = refl; b = refl; c = refl }
-of-amount Aoci x = record { equity-plus = refl; equity-minus = refl; aoci-plus = refl; aoci-minus = refl; b = refl; c = refl }
-of-amount B x = record { equity-plus = refl; equity-minus = refl; aoci-plus = refl; aoci-minus = refl; b = refl; c = refl }
-of-amount C x = record { equity-plus = refl; equity-minus = refl; aoci-plus = refl; aoci-minus = refl; b = refl; c = refl }
+of-amount Claims x = refl
+of-amount Lossc x = refl
+of-amount Stated x = refl
+of-amount Equity x = refl
+of-amount Aoci x = refl
+of-amount B x = refl
+of-amount C x = refl
 
-of-content : (g : Basis) (d : Content) → Capital (share g d) (λ i f. ofItem i f d)
+of-content : (g : Basis) (d : Content) → capitalIn (share g d) ≡ capitalBy d
 unfolding share shareWith derivativeShare assetShare
-of-content g (header h) = record { equity-plus = refl; equity-minus = refl; aoci-plus = refl; aoci-minus = refl; b = refl; c = refl }
-of-content g (loan l) = record { equity-plus = refl; equity-minus = refl; aoci-plus = refl; aoci-minus = refl; b = refl; c = refl }
+of-content g (header h) = refl
+of-content g (loan l) = refl
 of-content g (policy p) = of-policy (p .class) (p .premium) (p .term) (p .completed)
-of-content g (derivative d) = record { equity-plus = refl; equity-minus = refl; aoci-plus = refl; aoci-minus = refl; b = refl; c = refl }
-of-content g (asset a) = record { equity-plus = refl; equity-minus = refl; aoci-plus = refl; aoci-minus = refl; b = refl; c = refl }
+of-content g (derivative d) = refl
+of-content g (asset a) = refl
 of-content g (amount a) = of-amount (a .item) (a .amount)
-of-content g (index i) = record { equity-plus = refl; equity-minus = refl; aoci-plus = refl; aoci-minus = refl; b = refl; c = refl }
-of-content g (mark m) = record { equity-plus = refl; equity-minus = refl; aoci-plus = refl; aoci-minus = refl; b = refl; c = refl }
-of-content g NoForm = record { equity-plus = refl; equity-minus = refl; aoci-plus = refl; aoci-minus = refl; b = refl; c = refl }
+of-content g (index i) = refl
+of-content g (mark m) = refl
+of-content g NoForm = refl
 
-of-lines : (g : Basis) (kept : List (List ℕ)) → Capital (sumsBy g kept) (λ i f. sumBy (λ c. ofItem i f c) kept)
-unfolding sumsBy sumOf sumBy
-of-lines g [] = record { equity-plus = refl; equity-minus = refl; aoci-plus = refl; aoci-minus = refl; b = refl; c = refl }
-of-lines g (s ∷ kept) =
-    let x = of-content g (lineContent (lineOf s)) in
-    let y = of-lines g kept in
+capital-sums : (t : Terms) (kept : List (List ℕ)) → CapitalSums t kept
+capital-sums t kept =
+    let g : Basis = basisOf t kept in
+    let place : (k : ℕ) (d : Content) → getD (capitalIn (share g d)) k 0 ≡ getD (capitalBy d) k 0 = λ k d. ap (λ (l : List ℕ). getD l k 0) (of-content g d) in
     record {
-      equity-plus = ap₂ _+_ (x .equity-plus) (y .equity-plus);
-      equity-minus = ap₂ _+_ (x .equity-minus) (y .equity-minus);
-      aoci-plus = ap₂ _+_ (x .aoci-plus) (y .aoci-plus);
-      aoci-minus = ap₂ _+_ (x .aoci-minus) (y .aoci-minus);
-      b = ap₂ _+_ (x .b) (y .b);
-      c = ap₂ _+_ (x .c) (y .c);
+      equity-plus = sums-number (λ s. s .equity .plus) (λ x y. refl) refl (λ c. ofItem Equity (λ x. x .plus) c) g (place 0) kept;
+      equity-minus = sums-number (λ s. s .equity .minus) (λ x y. refl) refl (λ c. ofItem Equity (λ x. x .minus) c) g (place 1) kept;
+      aoci-plus = sums-number (λ s. s .aoci .plus) (λ x y. refl) refl (λ c. ofItem Aoci (λ x. x .plus) c) g (place 2) kept;
+      aoci-minus = sums-number (λ s. s .aoci .minus) (λ x y. refl) refl (λ c. ofItem Aoci (λ x. x .minus) c) g (place 3) kept;
+      b = sums-number (λ s. s .b) (λ x y. refl) refl (λ c. ofItem B (λ x. x .plus) c) g (place 4) kept;
+      c = sums-number (λ s. s .c) (λ x y. refl) refl (λ c. ofItem C (λ x. x .plus) c) g (place 5) kept;
     }
 
 pub line-numbers : LineNumbers
 line-numbers = record {
-  capital = λ t kept.
-      let h = of-lines (basisOf t kept) kept in
-      record {
-        equity-plus = h .equity-plus;
-        equity-minus = h .equity-minus;
-        aoci-plus = h .aoci-plus;
-        aoci-minus = h .aoci-minus;
-        b = h .b;
-        c = h .c;
-      };
+  capital = capital-sums;
   loans = λ g l. record {
     balance = refl;
     months = refl;

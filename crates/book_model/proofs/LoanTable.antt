@@ -14,14 +14,13 @@ use Rattle.line_forms.specs.declared.Content.{Content}
 use Rattle.line_forms.specs.declared.Content.the-variants.{Loan as loan}
 use Rattle.line_forms.specs.Claims.{ShowsInRange, lineContent}
 use Rattle.line_forms.specs.Readings.{lineOf}
-use Rattle.figures.specs.Sums.{sumOf}
 use Rattle.cell_report.specs.CellReport.{placeOf, cellAt}
 use Rattle.cell_report.proofs.Laws.{cells-alike}
 use Rattle.book_model.specs.Accepted.{Accepted}
 use Rattle.book_model.specs.Calls.{cellsSize, cellsTextOf}
 use Rattle.book_model.specs.Cells.{loanBand, loanLtv, ofLoan, loanCell}
 use Rattle.book_model.specs.Demand3.{figuresFor}
-use Rattle.book_model.specs.History.{opened, allFed, termsOf, acceptedOf, linesTaken, sumsBy}
+use Rattle.book_model.specs.History.{opened, allFed, termsOf, acceptedOf, linesTaken}
 use Rattle.book_model.specs.HouseIndex.{Index}
 use Rattle.book_model.specs.LineKinds.{kindCounts, sumBy}
 use Rattle.book_model.specs.LoanTable.{inCell, CellAdds, cellBy, cellsFor, sumTo, overCells, CellSums, WritesCells, SameTables, LoanTable}
@@ -30,7 +29,7 @@ use Rattle.book_model.specs.Terms.{Terms, Basis, basisOf}
 use Rattle.book_model.proofs.Bands.{bands, columns}
 use Rattle.book_model.proofs.Cells.{Between, band-between, loan-ltv-between, Held, a-loan, no-loan, held}
 use Rattle.book_model.proofs.Demand3.{after-is, writes-of, basis-permuted, same-texts}
-use Rattle.book_model.proofs.LineSums.{sum-alike, sum-permuted}
+use Rattle.book_model.proofs.LineSums.{sum-alike, sum-permuted, sums-number}
 use Rattle.book_model.proofs.SetValues.{shown, loan-content}
 use Rattle.book_model.proofs.Shapes.{Shape, of-loan, of-other, of-none, shape}
 use Rattle.book_model.proofs.Steps.{bookOf, stateOf}
@@ -287,34 +286,20 @@ adds-loan g c = go (held c) (shape g c)
       minus = n ℕ (λ l. loanNumbers g l .total .minus) 0 ∙ rw a refl;
     }
 
--- the book's sums are those of its loans
-record LoanSums (g : Basis) (kept : List (List ℕ)) : Type 0 where
-  loans : sumBy (ofLoan (λ l. 1) 0) kept ≡ sumsBy g kept .counts .loans
-  plus : sumBy (ofLoan (λ l. loanNumbers g l .total .plus) 0) kept ≡ sumsBy g kept .total .plus
-  minus : sumBy (ofLoan (λ l. loanNumbers g l .total .minus) 0) kept ≡ sumsBy g kept .total .minus
-
-loan-sums : (g : Basis) (kept : List (List ℕ)) → LoanSums g kept
-unfolding sumBy sumsBy sumOf
-loan-sums g [] = record { loans = refl; plus = refl; minus = refl }
-loan-sums g (s ∷ kept) =
-    let a = adds-loan g (lineContent (lineOf s)) in
-    let r = loan-sums g kept in
-    record { loans = ap₂ _+_ (a .loans) (r .loans); plus = ap₂ _+_ (a .plus) (r .plus); minus = ap₂ _+_ (a .minus) (r .minus) }
-
 pub cell-sums : (t : Terms) (kept : List (List ℕ)) → CellSums t kept
 unfolding cellBy figuresFor
 cell-sums t kept =
     let g : Basis = basisOf t kept in
-    let s = loan-sums g kept in
     record {
-      counts = all-cells (g .index) (λ l. loanCell g l .count) kept ∙ s .loans;
+      counts = all-cells (g .index) (λ l. loanCell g l .count) kept
+          ∙ sym (sums-number (λ s. s .counts .loans) (λ x y. refl) refl (ofLoan (λ l. 1) 0) g (λ c. sym (adds-loan g c .loans)) kept);
       charges =
           omega (
             arith,
             all-cells (g .index) (λ l. loanCell g l .charge .plus) kept,
             all-cells (g .index) (λ l. loanCell g l .charge .minus) kept,
-            s .plus,
-            s .minus,
+            sums-number (λ s. s .total .plus) (λ x y. refl) refl (ofLoan (λ l. loanNumbers g l .total .plus) 0) g (λ c. sym (adds-loan g c .plus)) kept,
+            sums-number (λ s. s .total .minus) (λ x y. refl) refl (ofLoan (λ l. loanNumbers g l .total .minus) 0) g (λ c. sym (adds-loan g c .minus)) kept,
           );
       balances = all-cells (g .index) (λ l. l .balance) kept;
     }

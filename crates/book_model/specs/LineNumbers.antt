@@ -17,6 +17,7 @@ use Rattle.book_model.specs.History.{sumsOf}
 use Rattle.book_model.specs.LineKinds.{sumBy}
 use Rattle.book_model.specs.Terms.{Terms, Basis, factorFor, loanInputs}
 
+-- a number for each, by which items are told apart
 abbrev pub itemNumber : Item → ℕ
 itemNumber Claims = 0
 itemNumber Lossc = 1

@@ -56,6 +56,6 @@ command-words = record {
   other = λ w word more n m. rw (another word (text "cells") n, another word (text "sheet") m) refl;
 }
   where
-    last : (w : Words) (t : Bool) → pick ((t) && false) (withSheet w) w ≡ w
+    last : (w : Words) (t : Bool) → pick (t && false) (withSheet w) w ≡ w
     last w true = refl
     last w false = refl

@@ -1,12 +1,13 @@
 -- The lines of an input, without a reader. Assumes nothing.
 use Prim.Native.Nat.{ℕ}
-use mathlib.Core.Bool.{Bool, true, false, not, _&&_}
+use mathlib.Core.Bool.{Bool, true, false}
 use mathlib.Core.List.{List, [], _∷_, _++_, append-assoc, append-nil, List·Memᴰ, List·Memᴰ·head, List·Memᴰ·tail, List·Memᴰ·not-nil}
 use mathlib.Core.Logic.{_⊎_, inl, inr, ⊎-elim}
 use mathlib.Core.Path.{_≡_, refl, sym, _∙_, ap, subst}
 use lib.Dec.{eqb}
 use borrow.Author.Tests.{eqb-true}
 use Rattle.line_bytes.specs.LineBytes.{newline, unbroken}
+use Rattle.line_bytes.proofs.FirstNewline.{unbroken-append}
 use Rattle.driver.specs.Printed.{lastOf, linesFrom, linesOf}
 use Rattle.driver.specs.InputLines.{withNewlines, EndsOpen, InputLines}
 
@@ -37,22 +38,9 @@ whole-from line (b ∷ bytes) = go (eqb b newline) refl (whole-from [] bytes) (w
     go false e h k = rw e (subst (Whole (linesFrom (line ++ (b ∷ [])) bytes)) (append-assoc line (b ∷ []) bytes) k)
 
 -- no line has a newline
-false-true : false ≡ true → ⊥
-false-true p = subst is-false p tt
-  where
-    is-false : Bool → Type 0
-    is-false true = ⊥
-    is-false false = Unit {0}
-
 unbroken-more : (line : List ℕ) (b : ℕ) → unbroken line ≡ true → eqb b newline ≡ false → unbroken (line ++ (b ∷ [])) ≡ true
 unfolding unbroken
-unbroken-more [] b h e = rw e refl
-unbroken-more (c ∷ line) b h e = go (eqb c newline) refl h (λ k. unbroken-more line b k e)
-  where
-    go : (t : Bool) → eqb c newline ≡ t → (not (eqb c newline) && unbroken line) ≡ true → (unbroken line ≡ true → unbroken (line ++ (b ∷ [])) ≡ true) →
-        (not (eqb c newline) && unbroken (line ++ (b ∷ []))) ≡ true
-    go true f g k = absurd (false-true (rw f at g))
-    go false f g k = rw f (k (rw f at g))
+unbroken-more line b h e = unbroken-append line (b ∷ []) ∙ rw (h, e) refl
 
 unended-from : (line bytes : List ℕ) → unbroken line ≡ true → (s : List ℕ) → List·Memᴰ s (linesFrom line bytes) → unbroken s ≡ true
 unfolding linesFrom lastOf unbroken

@@ -35,7 +35,7 @@ pub record ReportFigures (held rest moved : ℕ) (s : Sums) (f : Figures) : Type
   pub capital : f .capital .plus + (s .equity .minus + s .aoci .minus) ≡
       f .capital .minus + (s .equity .plus + s .aoci .plus + (admittedB e (s .b) + admittedC e (admittedB e (s .b)) (s .c)))
 
-pub record Words : Type 0 where
+pub record FigureWords : Type 0 where
   pub figures : (held rest moved : ℕ) (s : Sums) → ReportFigures held rest moved s (figuresFrom held rest moved s)
   -- admitted b: the smaller of b and 2e/3
   pub b : (e b : ℕ) → Greatest (λ x. (x ≤ b) × (3 * x ≤ 2 * e)) (admittedB e b)

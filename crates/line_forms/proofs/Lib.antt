@@ -13,7 +13,7 @@ pub mod NameLaws
 pub mod NumberLaws
 pub mod Numerals
 pub mod Positions
+pub mod RangeEnds
 pub mod Readers
 pub mod ScoreLaws
 pub mod Sizes
-pub mod RangeEnds

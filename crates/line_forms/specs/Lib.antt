@@ -6,5 +6,5 @@ pub mod Forms
 pub mod Names
 pub mod Numerals
 pub mod Parsing
-pub mod Readings
 pub mod RangeEnds
+pub mod Readings

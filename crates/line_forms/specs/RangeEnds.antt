@@ -1,5 +1,6 @@
 -- Both ends of every range as lines (01, "A book, line by line"; 02, L4 and L5), and the next number beyond each: a range that is changed alike in
--- the definitions and in the code is seen here. The other numbers of each line are well inside their ranges.
+-- the definitions and in the code is seen here. The other numbers of each line are well inside their ranges. So with how long a D, a name of a mark
+-- (02, L6) and a line may be.
 use Prim.Native.Nat.{ℕ}
 use mathlib.Core.Path.{_≡_}
 use mathlib.Core.List.{List, [], _∷_, map}
@@ -65,6 +66,20 @@ linesAtEnds =
     text "(index other 200702 1)" ∷
     text "(index other 200702 1000000)" ∷
     []
+
+-- a D of 14 digits is a number, though one out of its range; one of 15, one with a leading zero and -0 are no form
+abbrev pub fourteenDigits : List ℕ
+fourteenDigits = text "(claims 99999999999999)"
+
+abbrev pub otherDigits : List (List ℕ)
+otherDigits = text "(claims 100000000000000)" ∷ text "(claims 01)" ∷ text "(claims 00)" ∷ text "(claims )" ∷ text "(equity -0)" ∷ text "(claims -1)" ∷ []
+
+-- names of 1 and of 12 letters; none, one of 13 and one of other bytes
+abbrev pub names : List (List ℕ)
+names = text "(mark a)" ∷ text "(mark zzzzzzzzzzzz)" ∷ text "(back a)" ∷ text "(back zzzzzzzzzzzz)" ∷ []
+
+abbrev pub otherNames : List (List ℕ)
+otherNames = text "(mark )" ∷ text "(mark aaaaaaaaaaaaa)" ∷ text "(back aaaaaaaaaaaaa)" ∷ text "(mark A)" ∷ text "(mark a1)" ∷ []
 
 -- beyond them
 abbrev pub linesBeyond : List (List ℕ)
@@ -151,6 +166,13 @@ headerAnswers lines = map (λ s. headerRefusal (headerOf s)) lines
 pub record RangeEnds : Type 0 where
   pub at-ends : lineAnswers linesAtEnds ≡ replicate 53 0
   pub beyond : lineAnswers linesBeyond ≡ replicate 47 3
+  pub digits-14 : lineRefusal (lineOf fourteenDigits) ≡ 3
+  pub no-digits : lineAnswers otherDigits ≡ replicate 6 2
+  pub named : lineAnswers names ≡ replicate 4 0
+  pub no-names : lineAnswers otherNames ≡ replicate 5 2
+  -- a line of 240 bytes, and one of 241: no form is so long
+  pub bytes-240 : lineRefusal (lineOf (replicate 240 40)) ≡ 2
+  pub bytes-241 : lineRefusal (lineOf (replicate 241 40)) ≡ 1
   pub headers-at-ends : headerAnswers headersAtEnds ≡ replicate 4 0
   pub headers-beyond : headerAnswers headersBeyond ≡ replicate 2 3
   pub over-counted : headerAnswers headersOverCounted ≡ replicate 5 4

@@ -1,15 +1,12 @@
 -- The age columns and the factor of a loan without a score in inequalities. Assumes nothing.
 use mathlib.Core.Path.{_≡_, refl}
-use mathlib.Core.Bool.{Bool, true, false}
 use Prim.Native.Nat.{ℕ, _+_, _*_, _-_, _/_, _≤_, _<_, min}
 use native.Mathlib.Decide.{decLe}
 use native.Mathlib.Omega.{arith}
-use borrow.Author.Tests.{ltb-true, ltb-false}
-use lib.Dec.{ltb}
-use Rattle.exact.specs.Choice.{pick}
+use borrow.Author.Tests.{lt-ltb, le-ltb}
 use Rattle.loan_charge.specs.Computation.{limits, reachedOf}
 use Rattle.loan_charge.specs.CreditFactor.{hundredths, count, column, unscoredFactor}
-use Rattle.loan_charge.specs.Words.{Words}
+use Rattle.loan_charge.specs.Words.{LoanWords}
 use Rattle.loan_charge.proofs.CreditLaws.{none-reached, some-reached}
 
 to-12 : (age : ℕ) → age < 13 → column age ≡ 0
@@ -25,22 +22,14 @@ by-13 age f g = elim (decLe 13 age) [ yes k ↦ g k | no k ↦ f (omega arith) ]
 
 few : (loans unscored : ℕ) → 20 * unscored ≤ loans → unscoredFactor loans unscored ≡ hundredths 130
 unfolding unscoredFactor
-few loans unscored h = go (ltb loans (20 * unscored)) refl
-  where
-    go : (t : Bool) → ltb loans (20 * unscored) ≡ t → pick t (hundredths 300) (hundredths 130) ≡ hundredths 130
-    go true e = absurd (omega (arith, h, ltb-true loans (20 * unscored) e))
-    go false e = refl
+few loans unscored h = rw (le-ltb loans (20 * unscored) h) refl
 
 many : (loans unscored : ℕ) → loans < 20 * unscored → unscoredFactor loans unscored ≡ hundredths 300
 unfolding unscoredFactor
-many loans unscored h = go (ltb loans (20 * unscored)) refl
-  where
-    go : (t : Bool) → ltb loans (20 * unscored) ≡ t → pick t (hundredths 300) (hundredths 130) ≡ hundredths 300
-    go true e = refl
-    go false e = absurd (omega (arith, h, ltb-false loans (20 * unscored) e))
+many loans unscored h = rw (lt-ltb loans (20 * unscored) h) refl
 
-pub words : Words
-words = record {
+pub loan-words : LoanWords
+loan-words = record {
   first = λ age. (
     λ e. by-13 age (λ h. omega arith) (λ h. absurd (omega (arith, e, from-13 age h))),
     λ h. to-12 age (omega arith),

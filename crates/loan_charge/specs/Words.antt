@@ -5,7 +5,7 @@ use mathlib.Core.Logic.{_↔_}
 use mathlib.Core.Path.{_≡_}
 use Rattle.loan_charge.specs.CreditFactor.{hundredths, column, unscoredFactor}
 
-pub record Words : Type 0 where
+pub record LoanWords : Type 0 where
   -- "age columns at 12, 24, 36, 48 and 60 months": a limit itself belongs to the lower one
   pub first : (age : ℕ) → (column age ≡ 0) ↔ (age ≤ 12)
   pub between : (k age : ℕ) → k < 4 → (column age ≡ k + 1) ↔ ((12 * k + 12 < age) × (age ≤ 12 * k + 24))

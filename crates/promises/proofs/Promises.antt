@@ -2,7 +2,7 @@
 use Rattle.exponential.proofs.Promise as Exponential
 use Rattle.coefficients.proofs.CoefficientLaws as Coefficients
 use Rattle.loan_charge.proofs.Promise as LoanCharge
-use Rattle.loan_charge.proofs.Words as LoanWords
+use Rattle.loan_charge.proofs.Words.{loan-words}
 use Rattle.sheet.proofs.Loading.{loading}
 use Rattle.sheet_file.proofs.NumberTexts.{one-list}
 use Rattle.line_forms.proofs.HeaderLaws.{header-reading, bytes-read}
@@ -10,7 +10,7 @@ use Rattle.line_forms.proofs.LineLaws.{line-reading}
 use Rattle.line_forms.proofs.NameLaws.{name-numbers}
 use Rattle.line_forms.proofs.Examples.{line-texts}
 use Rattle.line_forms.proofs.RangeEnds.{range-ends}
-use Rattle.figures.proofs.Words as FigureWords
+use Rattle.figures.proofs.Words.{figure-words}
 use Rattle.report.proofs.Examples.{number-texts, refusal-text}
 use Rattle.book_report.proofs.Examples.{report-texts}
 use Rattle.cell_report.proofs.Examples.{cell-texts}
@@ -60,14 +60,14 @@ promises = record {
     exponential = Exponential.promise;
     coefficients = Coefficients.promise;
     loan-charge = LoanCharge.promise;
-    loan-words = LoanWords.words;
+    loan-words = loan-words;
     sheet = loading;
     number-list = one-list;
     line-reading = line-reading;
     header-reading = header-reading;
     bytes-read = bytes-read;
     name-numbers = name-numbers;
-    figure-words = FigureWords.words;
+    figure-words = figure-words;
     input-lines = input-lines;
   };
   examples = record {

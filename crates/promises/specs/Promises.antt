@@ -7,14 +7,14 @@ use mathlib.Core.List.{List}
 use Rattle.exponential.specs.Promise as Exponential
 use Rattle.coefficients.specs.Promise as Coefficients
 use Rattle.loan_charge.specs.Promise as LoanCharge
-use Rattle.loan_charge.specs.Words as LoanWords
+use Rattle.loan_charge.specs.Words.{LoanWords}
 use Rattle.sheet.specs.Loading.{Loading}
 use Rattle.sheet_file.specs.NumberList.{OneList}
 use Rattle.line_forms.specs.Claims.{LineReading, HeaderReading, BytesRead, NameNumbers}
 use Rattle.line_forms.specs.Readings.{lineOf, headerOf}
 use Rattle.line_forms.specs.Examples.{LineTexts}
 use Rattle.line_forms.specs.RangeEnds.{RangeEnds}
-use Rattle.figures.specs.Words as FigureWords
+use Rattle.figures.specs.Words.{FigureWords}
 use Rattle.report.specs.Examples.{NumberTexts, RefusalText}
 use Rattle.book_report.specs.Examples.{ReportTexts}
 use Rattle.cell_report.specs.Examples.{CellTexts}
@@ -83,7 +83,7 @@ pub record Layers : Type 0 where
   -- 01, the loan charge, and 02, L7: a loan's two numbers, less than 1.05 cents from the exact ones, on their sides
   pub loan-charge : LoanCharge.Promise
   -- age columns, and 1.3 or 3.0 without a score, in inequalities
-  pub loan-words : LoanWords.Words
+  pub loan-words : LoanWords
   -- 02, L3: which sheets pass, and their rates
   pub sheet : Loading
   -- a file that is a list of numbers is one list
@@ -96,7 +96,7 @@ pub record Layers : Type 0 where
   -- 02, L6: names of marks, one number each
   pub name-numbers : NameNumbers
   -- 01, closing: the figures, the limits on capital and the ratio in inequalities
-  pub figure-words : FigureWords.Words
+  pub figure-words : FigureWords
   -- 01: where a line of the input ends
   pub input-lines : InputLines
 
