@@ -5,11 +5,13 @@ A call is one line: `o` and a header line, `f` and a line (a mark or a return to
 the table. Its answer is its letter and the refusal, 0 for none; a closing tells the length too, and then all bytes of the buffer
 of which the lent one is the start, 640 or 8,320, `.` where nothing was written. `n` and numbers set the sheet of credit factors that
 `s` and a header line lends; its answer is how many were read, 67 for more, or `bad` for what is no list of numbers, and then the sheet is empty,
-as it is at first.
+as it is at first. `k` keeps a copy of the book and answers nothing; `j` joins the copy, at first that of a refused opening, and the book, which becomes
+what joining gave.
 
 The stored lists hold only loans whose two numbers the reference leaves no choice, so that it knows every byte of the answers.
-Further lists (--run) hold any loans: the same lines in two orders, and left standing by way of marks and returns, with refused lines between,
-half of them under a sheet. Their reports and tables are compared with the reference, and byte for byte with each other.
+Further lists (--run) hold any loans: by turns the same lines in two orders, and left standing by way of marks and returns, with refused lines between,
+and regions that are joined, beside one book with the lines of both; half of them under a sheet. Their reports and tables are compared with the
+reference, and byte for byte with each other.
 """
 import random
 import re
@@ -48,11 +50,6 @@ CLOSED = [b"c%d" % LEAST[b"c"], b"t%d" % LEAST[b"t"]]  # for the report and for 
 CERTAIN = {b"c": _certain_report, b"t": _certain_table}
 
 
-def no_book():
-    """What stands for a book before any opening, and after a refused one."""
-    return book.Book(0, 0, 0, 0)
-
-
 def _closing(found, kind, size, text):
     """What a closing answers: the book as it is found, the call's letter and size, what gives the text."""
     refusal = found.closing_refusal(min(size, BUFFERS[kind]), LEAST[kind])
@@ -70,24 +67,45 @@ def _sheet_read(text):
     return [int(number) for number in text.split()][: LENGTH + 1]
 
 
-def answers(calls, texts=CERTAIN):
-    """What each call answers; `texts` gives the report and the table of a book that is closed."""
-    open_book, sheet = no_book(), []
-    for call in calls:
+class Program:
+    """What the program keeps between calls: the book, a copy of one, and the sheet that is lent."""
+
+    def __init__(self):
+        self.book, self.kept, self.sheet = book.no_book(), book.no_book(), []
+
+    def _lend(self, text):
+        read = _sheet_read(text)
+        self.sheet = read or []
+        return b"n bad\n" if read is None else b"n %d\n" % len(read)
+
+    def _open(self, line, *lent):
+        opened = book.open_book(line, *lent)
+        refused = isinstance(opened, int)
+        self.book = book.no_book() if refused else opened
+        return opened if refused else 0
+
+    def _join(self):
+        refusal, self.book = book.join(self.kept, self.book)
+        return refusal
+
+    def answer(self, call, texts=CERTAIN):
+        """What a call answers; `texts` gives the report and the table of a book that is closed."""
         kind, rest = call[:1], call[1:]
+        if kind == b"k":
+            self.kept = self.book.copy()
+            return b""
         if kind == b"n":
-            read = _sheet_read(rest)
-            sheet = read or []
-            yield b"n bad\n" if read is None else b"n %d\n" % len(read)
-        elif kind in (b"o", b"s"):
-            opened = book.open_book(rest, sheet if kind == b"s" else None)
-            refused = isinstance(opened, int)
-            open_book = no_book() if refused else opened
-            yield b"%s %d\n" % (kind, opened if refused else 0)
-        elif kind == b"f":
-            yield b"f %d\n" % open_book.feed(rest)
-        else:
-            yield _closing(open_book, kind, int(rest), texts[kind])
+            return self._lend(rest)
+        if kind in SIZES:
+            return _closing(self.book, kind, int(rest), texts[kind])
+        refusals = {b"o": lambda: self._open(rest), b"s": lambda: self._open(rest, self.sheet), b"f": lambda: self.book.feed(rest), b"j": self._join}
+        return b"%s %d\n" % (kind, refusals[kind]())
+
+
+def answers(calls, texts=CERTAIN):
+    """What each call answers."""
+    program = Program()
+    return [program.answer(call, texts) for call in calls]
 
 
 KINDS = (book_runs.FRESH_SCORE, book_runs.AGED_SCORE, book_runs.NO_SCORE)
@@ -207,7 +225,8 @@ def _stored_calls():
     others = [line for line in book_runs.OTHER_KINDS.split(b"\n") if line]
     for _ in range(4):
         calls += _feedings(source, header, loans + others) + [b"c512"]
-    return calls + _table_calls(source, header, loans) + _sheet_calls(source) + _index_calls(source) + _fresh_calls(source) + _mark_calls(source)
+    calls += _table_calls(source, header, loans) + _sheet_calls(source) + _index_calls(source) + _fresh_calls(source) + _mark_calls(source)
+    return calls + _joining_calls(source)
 
 
 def _refused_headers(header):
@@ -632,6 +651,283 @@ def _way_calls(source):
     return calls
 
 
+def _joining_calls(source):
+    """Calls that join two books. Each condition has calls of its own, at its limit and one beyond."""
+    fixed = (
+        _first_joining_calls, _range_calls, _line_count_calls, _column_choice_calls, _factor_choice_calls, _no_loans_calls, _same_sheet_calls, _same_index_calls,
+        _withdrawn_index_calls, _dropped_marks_calls, _refused_joining_calls, _untouched_copy_calls, _added_sums_calls, _added_counts_calls, _joined_on_calls,
+    )
+    return [call for calls in fixed for call in calls()] + _one_book_calls(source)
+
+
+FLAT = 8, *(9,) * 5, *(7,) * (LENGTH - 12), *(5,) * 6  # a sheet of few bytes, in which its first and its last number can be another
+
+
+def _counted(*counts):
+    """The calls that open a book with these counts, and feed no line."""
+    return _opening(book_runs.book_header(*counts))
+
+
+def _with_lines(*lines):
+    """The calls that open a book of an all-zero header and feed it lines."""
+    return _counted(0, 0, 0) + _fed(*lines)
+
+
+def _joined(first, second):
+    """The calls that join the books that two lists of calls make."""
+    return [*first, b"k", *second, b"j"]
+
+
+def _both_ways(first, second):
+    return _joined(first, second) + _joined(second, first)
+
+
+def _first_joining_calls():
+    """The values of refused openings joined: the copy before any is kept, with each other, with a book, with a book under a sheet (16)."""
+    one = _with_lines(b"(claims 1001)", b"(equity 1000)")
+    calls = [b"o", b"j", *one, b"j", *CLOSED[:1]] + _joined([b"o"], [b"s(claims 7)"]) + CLOSED + _both_ways([b"o"], one) + CLOSED[:1]
+    lent = _opening(book_runs.HEADER[:-1], FLAT)
+    return calls + _both_ways([b"o"], lent) + CLOSED[:1] + _joined([b"o"], _counted(1, 0, 0, 7)) + _fed(*_small(13, 13)) + CLOSED
+
+
+def _range_calls():
+    """The added header in range: loans to 1,000,000 and held to 10^13, in two parts and all in one book."""
+    calls = []
+    for first, second in ((600_000, 400_000), (0, 1_000_000)):
+        for loans in (first, first + 1):
+            calls += _joined(_counted(loans, 0, 0), _counted(second, 0, 0)) + CLOSED[:1]
+    for first, second in ((6 * 10**12, 4 * 10**12), (10**13, 0)):
+        for held in (second, second + 1):
+            calls += _joined(_counted(0, 0, 0, first), _counted(0, 0, 0, held)) + CLOSED[:1]
+    # Unscored and fresh have no range of their own.
+    for counts in ((500_000, 500_000, 0, 5 * 10**12), (500_000, 0, 500_000, 5 * 10**12)):
+        calls += _joined(_counted(*counts), _counted(*counts)) + _fed(*_small(None, 12)) + CLOSED[:1]
+    return calls
+
+
+def _many_lines(count, *values):
+    """The calls that make a book of so many lines that are neither loans nor index lines, by joining it with itself, and of these index lines; it is kept."""
+    calls = _with_lines(*values)
+    for digit in f"{count:b}":
+        calls += [b"k", b"j"] + _fed(b"(b 1)") * int(digit)
+    return [*calls, b"k"]
+
+
+def _line_count_calls():
+    """The lines that are not loans, index lines once: 100,000 join and 100,001 do not. Then no line more is taken that is not a loan (8)."""
+    ten = [book_runs.index(b"other", month, 7) for month in range(200_501, 200_511)]
+    calls = []
+    for third, values in ((33_333, ()), (33_330, ten)):
+        calls += _many_lines(third, *values)
+        # From no other line, by joining the copy to it again and again.
+        short = 100_000 - 3 * third - len(values)
+        for more in (short, short + 1):
+            calls += _with_lines(*values) + [b"j", b"j"] + _fed(b"(stated 7)") * more + [b"j", *_fed(b"(c 7)", book_runs.index(b"toronto", FIRST, 7), *values[:1])]
+            calls += CLOSED[:1]
+    return calls
+
+
+def _column_choice_calls():
+    """The score column of each book by the added header, whether it is the first's or the second's that changes, also with no loan taken.
+
+    90% fresh are lost by the sum and reached by it, and kept exactly; a sheet whose columns are alike changes nothing.
+    """
+    calls = []
+    for first, second in (
+        ((10, 0, 9), (20, 0, 18)), ((10, 0, 9), (1, 0, 1)), ((10, 0, 8), (11, 0, 9)),  # joins
+        ((10, 0, 9), (10, 0, 8)), ((20, 0, 18), (1, 0, 0)), ((10, 0, 8), (10, 0, 10)), ((9, 0, 8), (1, 0, 1)),  # does not
+    ):
+        calls += _both_ways(_counted(*first), _counted(*second))
+    nine, eight = (book_runs.book_header(10, 0, fresh) for fresh in (9, 8))
+    calls += [_lending(sheets.EQUAL), *_both_ways([b"s" + nine], [b"s" + eight]), *_joined([b"s" + nine], [b"s" + nine])]
+    # The loans taken choose nothing: of the nine fresh ones none is there.
+    aged = _certain_balance(b"785 61", sheets.DISTINCT, book_runs.book_header(1, 0, 0))
+    return calls + _both_ways(_opening(nine), _counted(1, 0, 0) + _fed(aged)) + CLOSED[:1]
+
+
+def _factor_choice_calls():
+    """The factor of loans without a score by the added header: exactly 5% and more, for each book that counts any, and for no other."""
+    calls = []
+    for first, second in (
+        ((20, 1, 0), (20, 1, 0)), ((19, 1, 0), (20, 2, 0)), ((20, 1, 0), (7, 0, 0)), ((5, 0, 0), (1, 1, 0)), ((0, 0, 0), (1, 1, 0)),  # joins
+        ((20, 1, 0), (19, 1, 0)), ((19, 1, 0), (21, 1, 0)), ((1, 0, 0), (19, 1, 0)), ((21, 1, 0), (18, 1, 0)),  # does not
+    ):
+        calls += _both_ways(_counted(*first), _counted(*second))
+    # A loan at 3.0, in the last cell, beside a book without such loans, which is charged as before.
+    header = book_runs.book_header(1, 1, 0)
+    lines = (book_runs.loan(20_000_000 + i, 20_500_000, b"none") for i in range(1000))
+    unscored = next(line for line in lines if _is_certain(line, header))
+    return calls + _joined(_counted(5, 0, 0) + _fed(*_small(13) * 5), _opening(header) + _fed(unscored)) + CLOSED
+
+
+def _no_loans_calls():
+    """A header that counts no loans asks for nothing, whatever held and lines it has."""
+    none = _counted(0, 0, 0, 7) + _fed(b"(equity 7)")
+    calls = []
+    for counts in ((1, 0, 0), (10, 0, 9), (1, 1, 0), (20, 1, 0)):
+        calls += _both_ways(none, _counted(*counts, 11))
+    calls += _joined(none, none) + CLOSED[:1]
+    # What is held is added: of the loan's total, held by neither book alone, more than nothing is left.
+    header = book_runs.book_header(1, 0, 0, 1000)
+    aged = _opening(header) + _fed(_certain_balance(b"785 61", sheets.DISTINCT, header))
+    return calls + _joined(_counted(0, 0, 0, 700), aged) + CLOSED[:1] + _joined(aged, _counted(0, 0, 0, 30)) + CLOSED[:1]
+
+
+def _same_sheet_calls():
+    """A sheet and one with another number, at either end; the built-in table and a copy of it, which are the same."""
+    header = book_runs.book_header(1, 0, 0)
+    plain, copy, lent = (_opening(header, sheet) for sheet in (None, sheets.BUILT_IN, sheets.DISTINCT))
+    calls = _both_ways(plain, copy) + CLOSED[:1]
+    flat = _opening(header, FLAT)
+    first, last = (_opening(header, sheets.changed(FLAT, *changed)) for changed in ((0, 7), (LENGTH - 1, 6)))
+    for one, other in ((plain, flat), (first, flat), (flat, last)):
+        calls += _joined(one, other)
+    # The joined book is under the sheet of both: what it takes is charged by it.
+    aged = _certain_balance(b"785 61", sheets.DISTINCT, header)
+    for opening in (lent, copy):
+        calls += _joined(opening + _fed(aged), opening) + _fed(aged) + CLOSED[:1]
+    return calls
+
+
+def _same_index_calls():
+    """Index values in one book only, one that differs, one more in either book, others' places; the same values in another order join."""
+    _, own, december, line = _indexed_loan()
+    values = [own, december, book_runs.index(b"other", DECEMBER, 7)]
+    ends = [book_runs.index(area, month, 7) for area, month in ((AREAS[0], FIRST), (AREAS[-1], DECEMBER), (b"toronto", 201003), (b"toronto", 201004), (b"other", 201003))]
+    pairs = [(values, ()), (values, values[:2]), (values, [own.replace(b"9000", b"9001"), *values[1:]])]
+    pairs += [([value], [value.replace(b" 7)", b" 8)")]) for value in ends[:2]] + [([value], ()) for value in ends[:2]] + [(ends[2:3], [other]) for other in ends[3:]]
+    calls = []
+    for number, pair in enumerate(pairs):
+        first, second = (_with_lines(*lines) for lines in pair)
+        calls += _joined(second, first) if number % 2 else _joined(first, second)
+    calls += _joined(_with_lines(*pairs[0][1]), _with_lines(*pairs[0][0]))
+    # Index values are set in the joined book (11), and serve its loans.
+    one = book_runs.book_header(1, 0, 1, 1000)
+    calls += _joined(_opening(one) + _fed(*values, line), _opening(one) + _fed(*values[::-1])) + _fed(*values, line, line) + CLOSED
+    return calls + CLOSED[:1]
+
+
+def _withdrawn_index_calls():
+    """Only index lines still standing count: withdrawn ones are not asked for, and those set after a return are."""
+    _, own, december, _ = _indexed_loan()
+    other = own.replace(b"9000", b"12000")
+    withdrawn = _with_lines(b"(stated 1)") + _marks(b"a") + _fed(own, december, b"(stated 2)") + _marks(b"A")
+    calls = _both_ways(withdrawn, _with_lines(b"(stated 4)")) + _fed(own) + CLOSED[:1] + _joined(withdrawn, _with_lines(own, december))
+    return calls + _joined(_with_lines(other), withdrawn + _fed(other)) + CLOSED[:1] + _joined(withdrawn + _fed(other), _with_lines(own))
+
+
+def _dropped_marks_calls():
+    """Marks of both books are dropped, of joined ones and at 16: none can be returned to (15), and eight can be set."""
+    first = _with_lines(b"(stated 1)") + _marks(b"a", b"b") + _fed(b"(stated 2)")
+    second = _with_lines(b"(stated 4)") + _marks(b"b", b"c") + _fed(b"(stated 8)")
+    names = (b"A", b"B", b"C")
+    calls = _joined(first, second) + _marks(*names) + _fed(*book_runs.EIGHT_MARKS, b"(stated 16)") + _marks(b"ninth", b"A") + CLOSED[:1]
+    refused = _opening(book_runs.HEADER[:-1], FLAT) + second[1:]
+    calls += _joined(first, refused) + _marks(*names, *names) + _fed(*book_runs.EIGHT_MARKS, b"(stated 16)") + _marks(b"ninth", b"A") + CLOSED[:1]
+    # The marks of the book that is kept are not those of the copy.
+    return calls + first + [b"k"] + _marks(b"A") + [b"j"] + _marks(b"A", b"a") + CLOSED[:1]
+
+
+def _refused_joining_calls():
+    """What stands after 16 is what stands after a refused opening: the report, the table, the index, the built-in table, and what is taken."""
+    header, own, december, line = _indexed_loan()
+    first = _opening(header) + _fed(own, december, line, b"(claims 1001)") + _marks(b"a")
+    second = _opening(header, FLAT) + _fed(own, december, line) + _marks(b"b")
+    after = [*CLOSED, *_fed(line, *_small(13, None), own, own, december, b"(equity 1000)", header, b"x"), *_marks(b"A", b"B", b"a"), b"c511", *CLOSED]
+    calls = []
+    for refused in (_joined(first, second), [b"o"]):
+        calls += [*refused, *after]
+    # It joins with books under the built-in table, and with no other.
+    none, lent = _counted(0, 0, 0), _opening(book_runs.HEADER[:-1], FLAT)
+    return calls + _joined(_joined(lent, none), none) + _joined(_joined(none, lent), none) + _joined(_joined(none, lent), lent)
+
+
+def _untouched_copy_calls():
+    """The first book after a joining, refused or not: it joins again as before, and so it does after the book went on."""
+    header, own, december, line = _indexed_loan()
+    first = _opening(header) + _fed(own, december, line, b"(stated 1)") + [b"k"]
+    other = _opening(header) + _fed(own, december.replace(b"15000", b"15001"), b"(stated 2)") + [b"j"]
+    calls = first + other + CLOSED[:1] + _opening(header) + _fed(own, december, line, b"(stated 4)") + [b"j", *CLOSED, b"j", *CLOSED]
+    # What is fed after a copy was made, withdrawn or opened is not in the copy.
+    calls += first + _marks(b"a") + _fed(b"(stated 8)") + _marks(b"A") + _fed(b"(stated 16)") + [b"j", *CLOSED]
+    # A closing leaves both as they are.
+    return calls + _opening(header) + _fed(own, december, line) + [*CLOSED, b"k", *CLOSED, b"j", *CLOSED, b"j"] + CLOSED
+
+
+def _added_sums_calls():
+    """Rest and moved are rounded once, and capital is limited once: cents of both books add up before; each kind of line in both, with its sign."""
+    calls = []
+    for line in (b"(claims 1)", b"(policy (class home) (prem 10) (term 300) (done 5))", b"(asset (amount 1) (factor 1))"):
+        calls += _joined(_with_lines(line), _with_lines(line)) + CLOSED[:1] + [b"j", b"j", *CLOSED[:1]]
+    lines = book_runs.OTHER_KINDS.splitlines()
+    small, large = [b"(equity 600)", b"(b 500)", b"(c 100)", b"(aoci -7)"], [b"(equity -300)", b"(b 70)", b"(c 900)", b"(aoci 900)"]
+    return calls + _both_ways(_with_lines(*small, *lines[:5]), _with_lines(*large, *lines[3:8])) + CLOSED[:1]
+
+
+def _added_counts_calls():
+    """6 for a joined book where one of the two is short, by each count: the book goes on until they are reached, and takes no loan more (5)."""
+    fresh, aged, unscored = _small(12, 13, None)
+    header = book_runs.book_header(3, 1, 1)
+    whole = _opening(header) + _fed(fresh, aged, unscored)
+    calls = [*whole, b"k"]
+    for lines in ((fresh, unscored), (fresh, aged, aged), (aged, unscored, aged)):
+        calls += _opening(header) + _fed(*lines) + [b"j", b"c0", b"c512"]
+    calls += _joined(_opening(header) + _fed(fresh, unscored), whole) + CLOSED[:1] + _fed(aged) + CLOSED + [*whole, b"k", b"j", b"c511", *CLOSED]
+    # Both are short of other kinds. Places that one book has are free for the lines of the joined one.
+    calls += _joined(_opening(header) + _fed(fresh), _opening(header) + _fed(unscored, aged)) + CLOSED[:1]
+    return calls + _fed(aged, unscored, unscored, fresh, fresh) + CLOSED + _fed(fresh, aged, unscored)
+
+
+def _joined_on_calls():
+    """A joined book goes on as any: it is fed, marked, returned to, closed and joined again, with itself too."""
+    header, own, december, line = _indexed_loan()
+    one = _opening(header) + _fed(own, december, line)
+    calls = _joined(one, _opening(header) + _fed(december, own, b"(stated 1)")) + CLOSED[:1] + _marks(b"a") + _fed(b"(stated 2)", line) + CLOSED + _marks(b"b")
+    calls += _marks(b"A", b"B") + CLOSED[:1] + _fed(b"(stated 4)", line, line) + CLOSED[:1]
+    calls += [b"k", *one, b"j", *CLOSED, b"k", b"j", *CLOSED, *_marks(b"A"), *_fed(own, line, b"(stated 8)"), *CLOSED[:1]]
+    # With a book of no other lines, and with one that has no index lines either (16).
+    return calls + [b"k", *_with_lines(own, december), b"j", *CLOSED, b"k", *_counted(0, 0, 0), b"j", *CLOSED[:1]]
+
+
+def _one_book(source, header, lines, sheet=None):
+    """The calls of one book fed index lines and others, each in another order, and closed."""
+    indexed = [line for line in lines if line.startswith(b"(index ")]
+    others = [line for line in lines if line not in indexed]
+    return _opening(header, sheet) + _fed(*source.sample(indexed, len(indexed)), *source.sample(others, len(others))) + CLOSED
+
+
+def _one_book_calls(source):
+    """Regions joined one after another, and one book with the added header and the lines of all, index lines once and first: both closings are the same."""
+    _, own, december, _ = _indexed_loan()
+    others = book_runs.OTHER_KINDS.splitlines()
+    since = book_runs.made(201003, b"toronto")
+    calls = []
+    for counts, sheet in ((((2, 0, 2, 700), (1, 0, 1, 30)), None), (((3, 1, 1, 700), (2, 1, 0, 10**7), (1, 0, 0, 1)), sheets.DISTINCT)):
+        regions, all_lines = [], [own, december]
+        for number, (loans, unscored, fresh, held) in enumerate(counts):
+            header = book_runs.book_header(loans, unscored, fresh, held)
+            kinds = [book_runs.FRESH_SCORE] * fresh + [book_runs.NO_SCORE] * unscored + [book_runs.AGED_SCORE] * (loans - unscored - fresh)
+            lines = [_certain_loan(source, kind, header, *filter(None, [sheet])) for kind in kinds[1:]]
+            lines += [_certain_region_loan(kinds[0], header, (own, december), since, sheet), *others[number::3]]
+            regions.append(_opening(header, sheet) + _fed(*source.sample((own, december), 2), *lines))
+            all_lines += lines
+        joined = regions[0]
+        for region in regions[1:]:
+            joined = [*joined, b"k", *region, b"j"]
+        header = book_runs.book_header(*map(sum, zip(*counts)))
+        one = _one_book(source, header, all_lines, sheet)
+        assert answers(joined + CLOSED)[-2:] == answers(one)[-2:]
+        calls += joined + CLOSED + one
+    return calls
+
+
+def _certain_region_loan(kind, header, values, since, sheet):
+    """A loan of a kind that needs the index, whose numbers are certain."""
+    score = {book_runs.FRESH_SCORE: b"720 7", book_runs.AGED_SCORE: b"720 40", book_runs.NO_SCORE: b"none"}[kind]
+    lines = (book_runs.loan(20_000_000 + i, 14_000_000, score, since=since) for i in range(1000))
+    return next(line for line in lines if _is_certain(line, header, *filter(None, [sheet]), values=values))
+
+
 def _table_calls(source, header, loans):
     """Calls for the table."""
     # Of no book; then of one that has not all its loans: 6 before 9, whatever the buffer.
@@ -673,11 +969,10 @@ def _book_calls(source):
             return lines, sheet, calls
 
 
-def _text_written(printed, kind):
-    """The text that both closings of a kind wrote, or None where they did not write one and the same."""
+def _texts(printed, kind):
+    """The texts that the closings of a kind wrote, in turn."""
     closings = re.findall(rb"(?m)^%s 0 (\d+)\n(?s:(.{%d}))\n" % (kind, BUFFERS[kind]), printed)
-    texts = [written[: int(length)] for length, written in closings]
-    return texts[0] if len(texts) == 2 and texts[0] == texts[1] else None
+    return [written[: int(length)] for length, written in closings]
 
 
 def _problem(run, source):
@@ -685,9 +980,10 @@ def _problem(run, source):
     lines, sheet, calls = _book_calls(source)
     data = _input(calls)
     printed = run(data)
-    report, table = (_text_written(printed, kind) for kind in SIZES)
-    if report is None or table is None:
+    reports, tables = (_texts(printed, kind) for kind in SIZES)
+    if not len(reports) == len(tables) == 2 or len({*reports}) + len({*tables}) != 2:
         return "not two equal reports and two equal tables", data, printed
+    report, table = reports[0], tables[0]
     expected = b"".join(answers(calls, {b"c": lambda _: report, b"t": lambda _: table}))
     if printed != expected:
         return f"expected {expected!r}", data, printed
@@ -695,10 +991,87 @@ def _problem(run, source):
     return book_runs.problem(found, report) or book_runs.table_problem(found, report, table), data, printed
 
 
+def _region_calls(source, region):
+    """The calls of a region's book, in a shuffled order or by way of marks and returns, with refused lines between; now and then some lines short."""
+    way = source.choice((_feedings, _by_marks))
+    calls = way(source, region.lines[0], region.lines[1:], region.sheet)
+    return calls[: len(calls) - source.randrange(1, 4)] if source.randrange(12) == 0 and len(calls) > 6 else calls
+
+
+def joining_calls(source):
+    """The calls that join some regions in turn, now and then a book with the one that it was joined to, and those of one book with the lines of each that is joined further."""
+    found, program, calls = book_runs.regions(source, source.choice((2, 2, 3, 4))), Program(), []
+
+    def make(*further):
+        calls.extend(further)
+        return [program.answer(call, {kind: lambda _: b"" for kind in SIZES}) for call in further]
+
+    make(*_region_calls(source, found[0]), b"k")
+    for region in found[1:]:
+        make(*_region_calls(source, region))
+        again = source.choice(([], [], [], [b"j", *CLOSED]))
+        if b"j 16\n" in make(b"j", *CLOSED, *again):
+            # What stands then, and the copy as before: it joins with a book that has its index lines and no other.
+            copy = program.kept
+            make(b"f" + source.choice(region.lines[1:] or [b""]), *CLOSED, *_opening(book_runs.HEADER[:-1], copy.sheet))
+            make(*_fed(*book.lines_of_both(copy, copy)[0]), b"j", *CLOSED)
+        else:
+            make(b"k", *_as_one(source, program.book), *CLOSED)
+    return calls
+
+
+def _as_one(source, joined):
+    """The calls of one book with the header of a joined one and the lines still standing in it."""
+    header, *lines = book_runs.as_one(source, joined)
+    return _opening(header, joined.sheet) + _fed(*lines)
+
+
+class _Closed:
+    """What a program wrote at the closings of its calls, by the reference's book at each."""
+
+    def __init__(self, printed):
+        self.left = {kind: _texts(printed, kind) for kind in SIZES}
+        self.books = {}  # by header, sheet and lines: the book and its texts of either kind
+
+    def text(self, kind):
+        """What gives the text of a book that is closed: the next one written."""
+
+        def written(found):
+            text = self.left[kind].pop(0) if self.left[kind] else b""
+            key = found.loans, found.unscored, found.fresh, found.held, found.sheet, tuple(sorted(found.standing_lines()))
+            self.books.setdefault(key, (found.copy(), {each: set() for each in SIZES}))[1][kind].add(text)
+            return text
+
+        return written
+
+    def problem(self):
+        """What is wrong with the texts, or None: those of books with the same header, sheet and lines are the same, and they are the book's."""
+        for found, texts in self.books.values():
+            if any(len(each) != 1 for each in texts.values()):
+                return "not one report and one table of books with the same lines"
+            (report,), (table,) = texts[b"c"], texts[b"t"]
+            wrong = book_runs.problem(found, report) or book_runs.table_problem(found, report, table)
+            if wrong is not None:
+                return wrong
+        return None
+
+
+def _joining_problem(run, source):
+    """What is wrong with the answers of calls that join books, or None; the input and what was printed."""
+    calls = joining_calls(source)
+    while len(_input(calls)) > INPUT:
+        calls = joining_calls(source)
+    data = _input(calls)
+    printed = run(data)
+    closed = _Closed(printed)
+    expected = b"".join(answers(calls, {kind: closed.text(kind) for kind in SIZES}))
+    return closed.problem() if printed == expected else f"expected {expected!r}", data, printed
+
+
 def results(run, seed, count):
-    """What came out of so many books, each by its calls in two orders."""
+    """What came out of so many lists of calls: of a book in two orders, and of books that are joined, by turns."""
     source = random.Random(seed)
-    return (_problem(run, source) for _ in range(count))
+    return ((_joining_problem if i % 2 else _problem)(run, source) for i in range(count))
 
 
 def further(program, seed, count):

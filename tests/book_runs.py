@@ -8,7 +8,8 @@ loans and total. A book that is not refused is held to three more: its lines in 
 these lines standing by way of marks and returns; and its two sums, and the charge of each cell, are those of the numbers that each of its loans
 has alone, in a book of its own. Some books are run
 under a sheet of credit factors, by the words `sheet FILE`, and held to the requirement with that sheet; all others print the same bytes
-under a copy of the built-in table. Besides, the program is run with an input that goes on after a refusal, with a read and with a
+under a copy of the built-in table. Books are joined by the words `join FILE ..`: what is printed of several files is held to the reference's one book of
+their lines, and to what the program prints of one file with these lines. Besides, the program is run with an input that goes on after a refusal, with a read and with a
 write that fails, with files that are no sheet, and with other words.
 """
 import argparse
@@ -33,6 +34,7 @@ from reference.loan import credit_factor, is_fresh
 
 CELLS = "cells"  # the word with which the program prints the table too
 SHEET = "sheet"  # the word before the file of a sheet of credit factors
+JOIN = "join"  # the word before the files of books that are joined
 PER_LOAN, BESIDES = Fraction(3, 2), 3  # demand 3 with request L7: the required amount exceeds the exact one by less than this
 
 KEPT = b"(from 201512) (area other)"  # of a loan whose value stays as it is
@@ -693,7 +695,7 @@ def another_order(source, lines):
     return [line for _, line in sorted(timed)]
 
 
-def _random_counts(source):
+def random_counts(source):
     """Loans, how many without a score and how many fresh: as often just enough for the first column, or one fewer, as any number."""
     loans = source.choice((0, 1, 2, 5, 10, 19, 20, 21, 100, source.randrange(22, 130)))
     unscored = min(loans, source.choice((0, 0, 1, 2, loans // 20, loans // 20 + 1)))
@@ -702,17 +704,27 @@ def _random_counts(source):
     return loans, unscored, max(0, min(fresh, most))
 
 
-def whole_book(source):
-    """A header and lines that fit it."""
-    loans, unscored, fresh = _random_counts(source)
+def random_index(source):
+    """Areas and months from which loans need the index, and the index lines for them, with a few more."""
     places = [random_place(source) for _ in range(source.choice((0, 1, 3, 8)))]
-    lines = _index_lines(source, places)
+    return places, _index_lines(source, places)
+
+
+def region(source, counts, places, values):
+    """A header with these counts and lines that fit it, index lines and loans made at these places among them."""
+    loans, unscored, fresh = counts
+    lines = list(values)
     kinds = [NO_SCORE] * unscored + [FRESH_SCORE] * fresh + [AGED_SCORE] * (loans - unscored - fresh)
     lines += [loan_line(source, kind, _random_since(source, places)) for kind in kinds]
     lines += [_valid_line(source, source.choice(OTHERS)) for _ in range(source.randrange(12))]
     lines = another_order(source, lines)
     held = source.choice((0, 0, 1, 10**6, 10**9, 10**13))
     return [book_header(loans, unscored, fresh, held)] + lines
+
+
+def whole_book(source):
+    """A header and lines that fit it."""
+    return region(source, random_counts(source), *random_index(source))
 
 
 MARK_NAMES = (*EIGHT_NAMES, b"east", b"west", b"north", b"south")
@@ -1059,10 +1071,280 @@ class Runner:
     def under(self, sheet, layout=0):
         return Runner(self.program, sheet, layout)
 
-    def __call__(self, data, *words):
+    def _command(self, words):
         self.runs += 1
-        words = [*words, *self.lent] if self.runs % 4 < 2 else [*self.lent, *words]
-        return subprocess.run([self.program, *words], input=data, stdout=subprocess.PIPE, check=True).stdout
+        return [self.program, *words, *self.lent] if self.runs % 4 < 2 else [self.program, *self.lent, *words]
+
+    def __call__(self, data, *words):
+        return subprocess.run(self._command(words), input=data, stdout=subprocess.PIPE, check=True).stdout
+
+    def join(self, inputs, *words):
+        """The same for the books of several files, joined; equal ones are one file, named as often."""
+        with tempfile.TemporaryDirectory() as folder:
+            paths = [Path(folder) / f"{inputs.index(data)}.book" for data in inputs]
+            for path, data in zip(paths, inputs):
+                path.write_bytes(data)
+            command = [*self._command(words), JOIN, *paths]
+            return subprocess.run(command, stdin=subprocess.DEVNULL, stdout=subprocess.PIPE, check=True).stdout
+
+
+# ---- books that are joined (request L8)
+
+MOST_LOANS, MOST_HELD = 1_000_000, 10**13
+
+
+def header_of(found):
+    """The header line of a book."""
+    return book_header(found.loans, found.unscored, found.fresh, found.held)
+
+
+def as_one(source, joined):
+    """The lines of one book with the header of a joined one and the lines still standing in it: index lines first, each part in another order."""
+    indexed, others = ([line for line, form in joined.standing if (form.kind == "index") == first] for first in (True, False))
+    return [header_of(joined), *source.sample(indexed, len(indexed)), *source.sample(others, len(others))]
+
+
+def join_outcome(run, inputs, source=random.Random(62)):
+    """What is wrong with what is printed of several files, or None; what is printed without the table, and with it."""
+    found = book.run_joined(inputs, run.sheet)
+    report, with_cells = run.join(inputs), run.join(inputs, CELLS)
+    wrong = problem(found, report) or cells_problem(found, report, with_cells)
+    if wrong is None and not isinstance(found, tuple):
+        data = _joined(source, as_one(source, found))
+        if (run(data), run(data, CELLS)) != (report, with_cells):
+            wrong = f"not as of one file: {data[:4000]!r}"
+    return wrong, report, with_cells
+
+
+def join_result(run, source, inputs):
+    """What came out of several files."""
+    wrong, report, with_cells = join_outcome(run, inputs, source)
+    return wrong, b"\n--\n".join(inputs), report + with_cells
+
+
+def _loans(loans, unscored, fresh):
+    """So many loans, of which so many have no score and so many a fresh one; no two alike."""
+    scores = [b"none"] * unscored + [b"720 12"] * fresh + [b"720 13"] * (loans - unscored - fresh)
+    return [loan(9_000_000 + 1_000 * i, 10_000_000, score) for i, score in enumerate(scores)]
+
+
+def _region(loans, unscored, fresh, held=0, lines=()):
+    """The input of a book with such a header, loans that fit it and other lines before them."""
+    return b"\n".join([book_header(loans, unscored, fresh, held), *lines, *_loans(loans, unscored, fresh)])
+
+
+def _join_headers():
+    """Headers of two to four files by their loans, unscored and fresh: each choice reached by one and lost by the sum, and the other way round."""
+    yield from (
+        ((10, 0, 9), (10, 0, 9)), ((10, 0, 9), (1, 0, 1)), ((10, 0, 10), (10, 0, 8)), ((10, 0, 9), (10, 0, 8)), ((1, 0, 1), (1, 0, 0)), ((9, 0, 9), (1, 0, 0)),  # the column
+        ((10, 0, 8), (10, 0, 8)), ((1, 0, 0), (5, 0, 3)), ((11, 0, 10), (11, 0, 10), (11, 0, 9)),
+        ((20, 1, 0), (20, 1, 0)), ((20, 1, 0), (19, 1, 0)), ((19, 1, 0), (19, 1, 0)), ((20, 1, 0), (1, 1, 0)), ((19, 1, 0), (1, 0, 0)), ((18, 1, 0), (1, 0, 0)),  # the factor
+        ((1, 0, 0), (1, 1, 0)), ((19, 0, 0), (1, 1, 0)), ((40, 2, 0), (1, 0, 0)), ((40, 2, 0), (20, 2, 0)),
+        ((20, 1, 19), (20, 1, 19)), ((20, 1, 19), (19, 1, 18)), ((10, 1, 9), (10, 1, 8)),  # both
+        ((0, 0, 0), (1, 0, 0)), ((0, 0, 0), (1, 1, 0)), ((0, 0, 0), (0, 0, 0)), ((0, 0, 0), (10, 0, 9), (0, 0, 0), (10, 0, 9)),  # no loans: nothing is asked
+        ((1, 0, 0), (19, 1, 0), (1, 1, 0)), ((19, 1, 0), (1, 1, 0), (1, 0, 0)), ((1, 1, 0), (1, 0, 0), (19, 1, 0)),  # another order
+        ((1, 0, 0), (1, 0, 0), (1, 0, 1)), ((1, 0, 0), (1, 0, 0), (1, 0, 0), (1, 0, 1)), ((1, 0, 0), (1, 0, 0), (1, 0, 0), (1, 0, 0)),
+    )
+
+
+def _join_indexes():
+    """Index lines of files: the same in any order, one set in one file alone, one value that differs, at both ends; withdrawn, and set again."""
+    first, last = index(AREAS[0], FIRST, 7), index(AREAS[-1], DECEMBER, 9)
+    every = [index(area, month, 7_000 + month % 100) for area in AREAS for month in (*INDEXED, DECEMBER)]
+    a, to_a = mark(b"a"), back(b"a")
+    yield from (
+        ([first, last], [last, first]), ([first], []), ([], [last]), ([first, last], [first]), ([first], [first, last]), ([first], [last]),
+        ([first], [index(AREAS[0], FIRST, 8)]), ([last], [index(AREAS[-1], DECEMBER, 8)]), ([first], [index(AREAS[0], FIRST + 1, 7)]), ([first], [index(AREAS[1], FIRST, 7)]),
+        (every, every[::-1]), (every, [*every[:-1], index(AREAS[-1], DECEMBER, 1)]), (every, every[1:]), ([first], [first], []), ([first], [first], [first, last], [first]), ([], [], [], [first]),
+        ([a, first, to_a], []), ([a, first, to_a], [first]), ([a, last, to_a, first], [first, a, last]), ([first, a, last, to_a], [a, last, to_a, first]),
+    )
+
+
+def _join_lines():
+    """100,000 lines that are not loans, and one more, with ten index lines and with none; marks, returns and lines withdrawn are not among them."""
+    def lines(count, values=()):
+        return HEADER + b"".join(values) + b"(b 1)\n" * count
+
+    values = [index(b"quebec", month, month) + b"\n" for month in INDEXED[:10]]
+    marked = HEADER + b"(mark a)\n" + b"(b 1)\n" * 7 + b"(back a)\n" * 9
+    yield [lines(60_000, values), lines(39_990, values[::-1])]
+    yield [lines(60_000, values), lines(39_991, values)]
+    yield [lines(60_000), lines(40_000), marked]
+    yield [lines(60_000), lines(40_000), marked + b"(b 1)\n"]
+
+
+def join_inputs():
+    """Files of books to be joined, as lists of inputs."""
+    for headers in _join_headers():
+        yield [_region(*header, held=10 * place) for place, header in enumerate(headers)]
+    for indexes in _join_indexes():
+        yield [_region(0, 0, 0, lines=lines) for lines in indexes]
+    yield from _join_lines()
+    # Held at its most, and one beyond it.
+    for more in (0, 1):
+        yield [_region(0, 0, 0, 6 * 10**12), _region(1, 0, 1, 4 * 10**12 + more)]
+    yield [_region(0, 0, 0, 10**13), HEADER, _region(0, 0, 0, 1)]
+    # What is rounded once: rest and moved of a fraction of a cent in each; every other kind of line.
+    yield [HEADER + b"(claims 1)\n(policy (class home) (prem 1) (term 300) (done 5))\n"] * 4
+    yield [HEADER + OTHER_KINDS] * 3
+    # Each region's own home and admitted b and c are not those of all.
+    yield [_region(2, 0, 2, 10**9), _region(2, 0, 2, 0, [b"(equity -100)", b"(b 70)"]), HEADER + b"(equity 150)\n(c 90)\n"]
+    # Files that are refused: by a line, empty, short of a loan; what comes after them is not read, and 16 comes where it is met first.
+    well, odd = _region(1, 0, 1), _region(0, 0, 0, lines=[index(b"quebec", FIRST, 7)])
+    for wrong in (b"", b"x\n", HEADER + b"(b 1)\nx\n", HEADER[:-1] + b"\n" + LOAN, _header(1), _header(2) + LOAN, HEADER + b"(back a)\n", b"\n"):
+        yield from ([wrong], [wrong, well], [well, wrong], [well, wrong, odd], [well, well, wrong], [well, odd, wrong], [wrong, b"y\n"])
+    # One file; a book with itself; last lines without a newline.
+    yield from ([well], [well + b"\n"], [odd], [well, well], [odd, odd, odd], [well, well + b"\n", well])
+
+
+Region = collections.namedtuple("Region", "lines sheet")  # the lines of a book, the header first, and its sheet or None
+
+
+def opened(found):
+    """The book of a region with all its lines taken."""
+    taken = book.open_book(found.lines[0], found.sheet)
+    refused = [line for line in found.lines[1:] if taken.feed(line)]
+    assert not refused
+    return taken
+
+
+def _fitting_counts(source, total):
+    """Counts of a header that keeps the choices of the books joined so far, and its own, where some are found soon."""
+    before = book.Book(total.loans, total.unscored, total.fresh, 0)
+    for _ in range(30):
+        counts = random_counts(source)
+        if not book.wanting(before, book.Book(*counts, 0)):
+            break
+    return counts
+
+
+def _with_held(lines, most):
+    """The lines of a book with no more held than this."""
+    *counts, held = forms.read_opening(lines[0]).values
+    return [book_header(*counts, min(held, most)), *lines[1:]]
+
+
+def _other_sheet(source, _, found):
+    """Another sheet, by one number where that keeps the rules; a copy of the built-in table is none."""
+    numbers = found.sheet or sheets.BUILT_IN
+    place = source.choice((0, len(numbers) - 1, source.randrange(len(numbers))))
+    changed = [sheets.changed(numbers, place, numbers[place] + step) for step in (1, -1)]
+    kept = [sheet for sheet in changed if not sheets.broken(sheet)]
+    return Region(found.lines, source.choice((*kept, sheets.BUILT_IN if found.sheet is None else sheets.kept(source))))
+
+
+def _other_index(source, _, found):
+    """Another value, one fewer where no loan needs it, or one more; the lines are taken all the same."""
+    lines = list(found.lines)
+    at = {forms.read_feeding(line).values[:2]: i for i, line in enumerate(lines) if line.startswith(b"(index ")}
+    needed = {place for form in opened(found).loan_forms() for place in house_index.needed(book.loan_values(form))}
+    free = sorted(at.keys() - needed)
+    kind, more = source.randrange(3), random_place(source)
+    if at and kind == 0:
+        place = source.choice(sorted(at))
+        lines[at[place]] = index(*place, source.randrange(1, 1_000_001))
+    elif free and kind == 1:
+        del lines[at[source.choice(free)]]
+    elif more not in at:
+        lines.insert(1, index(*more, 7))
+    return Region(lines, found.sheet)
+
+
+def _loans_at_limit(source, total, found):
+    """A header, without its loans, that brings those of all to their limit, or one beyond."""
+    loans = MOST_LOANS - total.loans + source.randrange(2)
+    if loans > MOST_LOANS:
+        return found
+    indexed = [line for line in found.lines if line.startswith(b"(index ")]
+    return Region([book_header(loans, 0, 0 if total.aged else loans), *indexed], found.sheet)
+
+
+def _held_at_limit(source, total, found):
+    """As much held as brings that of all to its limit, or one beyond."""
+    *counts, _ = forms.read_opening(found.lines[0]).values
+    held = min(MOST_HELD - total.held + source.randrange(2), MOST_HELD)
+    return Region([book_header(*counts, held), *found.lines[1:]], found.sheet)
+
+
+# How a region is changed so that a condition may be wanting: in calls; and in files, all of which have their loans, under the one sheet that the program is lent.
+IN_CALLS = (_other_sheet, _other_index, _loans_at_limit, _held_at_limit)
+IN_FILES = (_other_index, _held_at_limit)
+
+
+def regions(source, count, ways=IN_CALLS):
+    """So many books with the same index lines, under one sheet or none; each but the first mostly joins with those before it that joined."""
+    places, values = random_index(source)
+    sheet = sheets.kept(source) if _other_sheet in ways and source.randrange(2) else None
+    found = [Region(region(source, random_counts(source), places, values), sheet)]
+    total = opened(found[0])
+    while len(found) < count:
+        counts = random_counts(source) if source.randrange(3) == 0 else _fitting_counts(source, total)
+        one = Region(_with_held(region(source, counts, places, values), MOST_HELD - total.held), sheet)
+        way = source.randrange(10)
+        if way < len(ways):
+            one = ways[way](source, total, one)
+        found.append(one)
+        refusal, joined = book.join(total, opened(one))
+        total = total if refusal else joined
+    return found
+
+
+def region_files(source, harm=False):
+    """Two to four files of regions, each as its lines: half of them by way of marks and returns, and one damaged where that is asked."""
+    files = [found.lines for found in regions(source, source.randrange(2, 5), IN_FILES)]
+    harmed = source.randrange(len(files)) if harm else None
+    for place, lines in enumerate(files):
+        if place == harmed:
+            files[place] = damaged(source, lines)
+        elif source.randrange(2):
+            files[place] = by_marks(source, lines)
+    return files
+
+
+def join_results(run, seed, count):
+    """What came out of so many lists of generated files: in one of eight a file is damaged; a third under a sheet."""
+    source = random.Random(seed)
+    for i in range(count):
+        files = region_files(source, i % 8 == 7)
+        lending = _lent(run, source, i % 6 == 2) if i % 3 == 2 else run
+        yield join_result(lending, source, [_joined(source, lines) for lines in files])
+
+
+def fixed_join_results(run):
+    """What came out of the fixed files."""
+    source = random.Random(61)
+    yield from (join_result(run, source, inputs) for inputs in join_inputs())
+    # Under a sheet, and under one that breaks a rule.
+    inputs = [_region(10, 0, 9), _region(10, 0, 9, 7)]
+    yield from (join_result(run.under(sheet), source, inputs) for sheet in (sheets.DISTINCT, sheets.BUILT_IN, sheets.OUTSIDE[0]))
+    yield from most_loans(run)
+
+
+def most_loans(run):
+    """What came out of a million loans in two files, and of one more: as many times the one loan's numbers, or 16, as the reference has it for the headers alone."""
+    of_one = sums_of(run(_header(1) + SMALL_LOAN))
+    half = MOST_LOANS // 2
+    for counts in ((half, half), (half, half + 1)):
+        refusal, joined = book.join(*(book.open_book(_header(count)[:-1]) for count in counts))
+        printed = run.join([_header(count) + SMALL_LOAN * count for count in counts])
+        if refusal:
+            wrong = problem((refusal, 2), printed)
+        else:
+            well = sums_of(printed) == tuple(joined.loans * number for number in of_one) and counts_of(printed)[0] == joined.loans
+            wrong = None if well else f"not {joined.loans} times one loan"
+        yield wrong, b"".join(map(_header, counts)), printed
+
+
+def join_files(program):
+    """What came out of the word `join` without a file, and of files that cannot be read: a sentence, and nothing printed."""
+    with tempfile.TemporaryDirectory() as folder:
+        well, none = Path(folder) / "a book", Path(folder) / "none"
+        well.write_bytes(HEADER)
+        for words in ([JOIN], [CELLS, JOIN], [JOIN, none], [JOIN, well, none], [JOIN, none, well], [JOIN, folder], [JOIN, well, folder], [JOIN, well, "/proc/self/mem"], [JOIN, ""],
+                      [JOIN, well, CELLS], [JOIN, JOIN], ["x", JOIN, well], [CELLS, CELLS, JOIN, well], [SHEET, JOIN, well], ["--join", well], ["Join", well], ["joins", well]):
+            done = subprocess.run([Path(program).resolve(), *words], input=HEADER, capture_output=True, cwd=folder, check=False)
+            wrong = None if done.stdout == b"" and done.stderr.endswith(b"\n") else f"with {words} {done.stderr!r} on standard error"
+            yield wrong, HEADER, done.stdout
 
 
 def stopped(command, data=HEADER + b"x\n", sheet=None):
@@ -1163,6 +1445,7 @@ def single_results(program):
     yield stopped([program, *refused.lent], HEADER, refused.sheet)
     yield from other_words(program, *kept.lent)
     yield from sheet_files(program)
+    yield from join_files(program)
 
 
 def _lent(run, source, well):
@@ -1216,7 +1499,10 @@ def main():
     if options.book:
         tried = given_results(run, [options.book.read_bytes()])
     else:
-        tried = itertools.chain(single_results(options.program), fixed_results(run), results(run, options.seed, options.count))
+        tried = itertools.chain(
+            single_results(options.program), fixed_results(run), results(run, options.seed, options.count),
+            fixed_join_results(run), join_results(run, options.seed, options.count // 4),
+        )
     passed = failed = 0
     for result in tried:
         if result[0] is None:

@@ -5,6 +5,7 @@ import unicodedata
 import unittest
 from fractions import Fraction as F
 
+import book_cases
 import book_runs
 import line_cases
 import near_bounds
@@ -574,6 +575,233 @@ class Marks(unittest.TestCase):
         numbers = [found[0] for found in (book.run(b"\n".join(book_runs.damaged(source, book_runs.whole_book(source)))) for _ in range(400)) if isinstance(found, tuple)]
         for refusal in (13, 14, 15):
             self.assertGreater(numbers.count(refusal), 3)
+
+
+class Joining(unittest.TestCase):
+    """Request L8: two books joined."""
+
+    SMALL = book_runs.SMALL_LOAN[:-1]
+    VALUES = (b"(index other 200501 7)", b"(index other 201512 9)")
+
+    @staticmethod
+    def header(loans, unscored=0, fresh=0, held=0, sheet=None):
+        return book.Book(loans, unscored, fresh, held, sheet)
+
+    def book_of(self, *lines, counts=(0, 0, 0), sheet=None):
+        opened = book.open_book(book_runs.book_header(*counts), sheet)
+        self.assertEqual([opened.feed(line) for line in lines], [0] * len(lines))
+        return opened
+
+    def assert_joins(self, a, b):
+        self.assertEqual(book.wanting(a, b), [])
+        refusal, joined = book.join(a, b)
+        self.assertEqual(refusal, 0)
+        return joined
+
+    def assert_wanting(self, a, b, *names):
+        """These conditions alone are wanting, in this order of the books; what comes back is the value of a refused opening, and both books stay."""
+        before = [(found.standing_lines(), dict(found.marks)) for found in (a, b)]
+        self.assertEqual(book.wanting(a, b), list(names))
+        refusal, given = book.join(a, b)
+        self.assertEqual((refusal, given.standing, given.marks, given.sheet), (16, [], {}, None))
+        self.assertEqual((given.loans, given.unscored, given.fresh, given.held), (0, 0, 0, 0))
+        self.assertEqual([(found.standing_lines(), found.marks) for found in (a, b)], before)
+
+    def test_worked_example(self):
+        """Document 01's report, joined with itself: rest 900.4 and not 2 x 451, c admitted once up to 7/93 of 2,000."""
+        one = self.book_of(b"(asset (amount 100000) (factor 25))", b"(claims 1001)", b"(equity 1000)", b"(c 100)")
+        report = (
+            b"(loans 0)\n(total 0)\n(supplement 0)\n(home 0)\n(moved 0)\n(rest 901)\n(oper 181)\n(required 1082)\n(capital 2150)\n(ratio 29805)\n"
+        )
+        self.assertEqual(self.assert_joins(one, one).report(0, 0), report)
+        self.assertEqual(one.report(0, 0), book.run(book_runs.HEADER + b"\n".join(one.standing_lines())).report(0, 0))
+
+    def test_lines(self):
+        """The index lines once and first, then the others of the first and of the second; header and counts added, no mark."""
+        fresh, older = self.SMALL, self.SMALL.replace(b"(from 201512)", b"(from 200501)")
+        a = self.book_of(b"(b 1)", *self.VALUES, b"(mark a)", older, counts=(1, 0, 1, 30))
+        b = self.book_of(b"(mark a)", *self.VALUES[::-1], fresh, b"(c 2)", b"(mark b)", counts=(2, 0, 2, 4))
+        joined = self.assert_joins(a, b)
+        self.assertEqual(joined.standing_lines(), [*self.VALUES, b"(b 1)", older, fresh, b"(c 2)"])
+        self.assertEqual((joined.loans, joined.unscored, joined.fresh, joined.held), (3, 0, 3, 34))
+        self.assertEqual((joined.loan_count, joined.other_count, joined.marks), (2, 4, {}))
+        self.assertEqual((a.other_count, b.other_count, list(b.marks)), (3, 3, [b"a", b"b"]))
+        # It goes on as any: a loan is missing (6), then none more is taken (5), values are set (11), names are free.
+        self.assertEqual([joined.closing_refusal(), joined.feed(b"(back a)"), joined.feed(b"(mark a)"), joined.feed(self.VALUES[0])], [6, 15, 0, 11])
+        self.assertEqual([joined.feed(older), joined.feed(fresh), joined.closing_refusal()], [0, 5, 0])
+        twice = self.assert_joins(joined, joined)
+        self.assertEqual((twice.loan_count, twice.other_count, twice.loans, twice.held, twice.marks), (6, 6, 6, 68, {}))
+
+    def test_withdrawn(self):
+        """Lines still standing count, and no others."""
+        a = self.book_of(b"(mark a)", *self.VALUES, b"(b 1)", b"(back a)", b"(b 2)")
+        b = self.book_of(b"(b 4)")
+        self.assertEqual(self.assert_joins(a, b).standing_lines(), [b"(b 2)", b"(b 4)"])
+        self.assert_wanting(a, self.book_of(*self.VALUES), "index")
+
+    def test_sheet(self):
+        """All 66 numbers; the built-in table and its copy are the same."""
+        plain, copy, own = (self.header(0, sheet=lent) for lent in (None, sheet.BUILT_IN, sheets.DISTINCT))
+        self.assertIsNone(self.assert_joins(plain, copy).sheet)
+        self.assertEqual(self.assert_joins(own, own).sheet, sheets.DISTINCT)
+        self.assert_wanting(plain, own, "sheet")
+        for place in range(66):
+            other = self.header(0, sheet=sheets.changed(sheets.DISTINCT, place, sheets.DISTINCT[place] + 1))
+            self.assert_wanting(own, other, "sheet")
+            self.assert_wanting(other, own, "sheet")
+
+    def test_index(self):
+        """The same areas, months and values, in whatever order."""
+        both = self.book_of(*self.VALUES)
+        self.assertEqual(self.assert_joins(both, self.book_of(*self.VALUES[::-1])).other_count, 2)
+        for lines in ((), self.VALUES[:1], self.VALUES[1:], (*self.VALUES, b"(index other 200502 7)"), (self.VALUES[0], b"(index other 201512 10)"), (self.VALUES[0], b"(index calgary 201512 9)")):
+            self.assert_wanting(both, self.book_of(*lines), "index")
+            self.assert_wanting(self.book_of(*lines), both, "index")
+
+    def test_range(self):
+        most = self.header(600_000)
+        self.assertEqual(self.assert_joins(most, self.header(400_000)).loans, 1_000_000)
+        self.assert_wanting(most, self.header(400_001), "loans")
+        self.assert_wanting(self.header(1), self.header(1_000_000), "loans")
+        held = self.header(0, held=6 * 10**12)
+        self.assertEqual(self.assert_joins(held, self.header(0, held=4 * 10**12)).held, 10**13)
+        self.assert_wanting(held, self.header(0, held=4 * 10**12 + 1), "held")
+        # Unscored and fresh are limited by loans alone.
+        self.assertEqual(self.assert_joins(self.header(500_000, 500_000), self.header(500_000, 500_000)).unscored, 1_000_000)
+
+    def test_other_lines(self):
+        """100,000, index lines once: 60,000 and 39,990 with ten index lines in both, and one more."""
+        values = [b"(index other %d 7)" % month for month in range(200_501, 200_511)]
+        large, small, more = (self.book_of(*values, *[b"(b 1)"] * count) for count in (60_000, 39_990, 39_991))
+        self.assertEqual(self.assert_joins(large, small).other_count, 100_000)
+        self.assertEqual(self.assert_joins(large, small).feed(b"(b 1)"), 8)
+        self.assert_wanting(large, more, "lines")
+        self.assert_wanting(more, large, "lines")
+        half = self.book_of(*[b"(b 1)"] * 50_000)
+        self.assertEqual(self.assert_joins(half, half).other_count, 100_000)
+        self.assertEqual(half.feed(b"(b 1)"), 0)
+        self.assert_wanting(half, half, "lines")
+
+    def test_column(self):
+        """Of each book whose header counts loans, by the header alone."""
+        nine, eight, ten = (self.header(10, 0, fresh) for fresh in (9, 8, 10))
+        for a, b, aged in ((nine, nine, False), (nine, ten, False), (eight, eight, True), (nine, self.header(20, 0, 18), False), (self.header(0, held=7), eight, True)):
+            self.assertEqual((self.assert_joins(a, b).aged, self.assert_joins(b, a).aged), (aged, aged))
+        # Lost by the sum and reached by it.
+        self.assert_wanting(nine, eight, "column of the first")
+        self.assert_wanting(eight, nine, "column of the second")
+        self.assert_wanting(eight, ten, "column of the first")
+        self.assert_wanting(ten, eight, "column of the second")
+        # Also where all columns of the sheet are alike.
+        self.assert_wanting(self.header(10, 0, 9, sheet=sheets.EQUAL), self.header(10, 0, 8, sheet=sheets.EQUAL), "column of the first")
+
+    def test_factor(self):
+        """Of each book whose header counts loans without a score, by the header alone."""
+        twenty, nineteen, none = self.header(20, 1), self.header(19, 1), self.header(5)
+        for a, b in ((twenty, twenty), (nineteen, nineteen), (twenty, none), (none, self.header(1, 1)), (self.header(0), nineteen)):
+            self.assert_joins(a, b)
+            self.assert_joins(b, a)
+        self.assert_wanting(twenty, nineteen, "factor of the first")
+        self.assert_wanting(nineteen, twenty, "factor of the second")
+        self.assert_wanting(nineteen, self.header(21, 1), "factor of the first")
+        self.assert_wanting(self.header(1), nineteen, "factor of the second")
+
+    def test_no_loans(self):
+        """A header that counts no loans asks for nothing; the value of a refused opening is such a book, under the built-in table."""
+        none = book.no_book()
+        for found in (self.header(10, 0, 9), self.header(10, 0, 8), self.header(19, 1), self.header(20, 1), none):
+            joined = self.assert_joins(none, found)
+            self.assertEqual((joined.loans, joined.unscored, joined.fresh), (found.loans, found.unscored, found.fresh))
+            self.assert_joins(found, none)
+        self.assert_wanting(none, self.header(0, sheet=sheets.EQUAL), "sheet")
+        self.assert_wanting(none, self.book_of(*self.VALUES), "index")
+
+    def test_several(self):
+        """All that is wanting is told."""
+        a = self.header(10, 1, 9, 10**13, sheets.EQUAL)
+        b = self.book_of(*self.VALUES, counts=(1_000_000, 1, 0, 1))
+        self.assert_wanting(a, b, "sheet", "index", "loans", "held", "column of the first", "factor of the first")
+
+    def test_closing(self):
+        """The joined book closes as one book with the lines of both; its charges are those of the loans in their own books."""
+        source = random.Random(16)
+        joined = 0
+        while joined < 20:
+            a, b = map(book_runs.opened, book_runs.regions(source, 2))
+            refusal, both = book.join(a, b)
+            if refusal:
+                continue
+            joined += 1
+            bounds = [x + y for x, y in zip(a.sum_bounds(), b.sum_bounds())]
+            self.assertEqual(list(both.sum_bounds()), bounds)
+            self.assertEqual(both.closing_refusal(), a.closing_refusal() or b.closing_refusal())
+            charges = [x + y for (x, _), (y, _) in zip(cells.charge_bounds(a), cells.charge_bounds(b))]
+            self.assertEqual([charge for charge, _ in cells.charge_bounds(both)], charges)
+
+    def test_inputs(self):
+        """Inputs joined from the first on: the first that is refused, with its line, or that cannot be joined, with its number."""
+        one, value, short = book_runs.HEADER + b"(b 1)\n", book_runs.HEADER + self.VALUES[0], book_runs.book_header(1, 0, 0)
+        for inputs, lines in (([one], 1), ([one] * 4, 4), ([book_runs.HEADER, one], 1), ([value, value + b"\n(b 1)"], 2)):
+            joined = book.run_joined(inputs)
+            self.assertEqual((joined.other_count, joined.sheet), (lines, None))
+        self.assertEqual(book.run_joined([one, one], sheets.DISTINCT).sheet, sheets.DISTINCT)
+        wrong = one + b"x\n"
+        for inputs, found in (
+            ([wrong], (2, 3)), ([one, wrong, value], (2, 3)), ([one, one, b""], (2, 1)), ([one, short], (6, 2)), ([short, wrong], (6, 2)),
+            ([one, value], (16, 2)), ([one, one, value, wrong], (16, 3)), ([value, one, one], (16, 2)),
+        ):
+            self.assertEqual(book.run_joined(inputs), found)
+        self.assertEqual(book.run_joined([one, wrong], sheets.OUTSIDE[0]), (10, 1))
+
+    def test_generated(self):
+        """The regions that the tests generate lack every condition but that of the lines, each alone too, and join as often."""
+        source = random.Random(8)
+        seen, joined, short = {name: [0, 0] for name in book.CONDITIONS}, 0, 0
+        for _ in range(250):
+            first, *others = map(book_runs.opened, book_runs.regions(source, 3))
+            for other in others:
+                names = book.wanting(first, other)
+                for name in names:
+                    seen[name][0] += 1
+                    seen[name][1] += len(names) == 1
+                refusal, both = book.join(first, other)
+                self.assertEqual(refusal, 16 if names else 0)
+                first = first if refusal else both
+                joined += not refusal
+                short += not refusal and both.closing_refusal() == 6
+        del seen["lines"]
+        self.assertGreater(min(count for count, _ in seen.values()), 10)
+        self.assertGreater(min(alone for _, alone in seen.values()), 2)
+        self.assertGreater(joined, 150)
+        self.assertGreater(short, 5)
+
+    def test_generated_files(self):
+        """The files that the tests generate are joined, refused for themselves, and lack each condition that files under one sheet with their loans can lack in short books."""
+        source = random.Random(10)
+        seen, joined, refused = dict.fromkeys(("index", "held", *book.CONDITIONS[5:]), 0), 0, 0
+        for i in range(300):
+            inputs = [b"\n".join(lines) for lines in book_runs.region_files(source, i % 8 == 7)]
+            found = book.run_joined(inputs)
+            if not isinstance(found, tuple):
+                joined += 1
+            elif found[0] != 16:
+                refused += 1
+            else:
+                number = found[1]
+                names = book.wanting(book.run_joined(inputs[: number - 1]), book.run(inputs[number - 1]))
+                if len(names) == 1:
+                    seen[names[0]] += 1
+        self.assertGreater(min(seen.values()), 3)
+        self.assertGreater(joined, 80)
+        self.assertGreater(refused, 10)
+
+    def test_generated_calls(self):
+        """The calls that the tests generate join and are refused, and joined books are closed with 0 and with 6."""
+        source = random.Random(9)
+        texts = {kind: lambda _: b"" for kind in book_cases.SIZES}
+        told = [answer[:4] for _ in range(60) for answer in book_cases.answers(book_cases.joining_calls(source), texts)]
+        for answer, least in ((b"j 0\n", 60), (b"j 16", 20), (b"c 0 ", 100), (b"c 6 ", 5), (b"t 0 ", 100), (b"t 6 ", 5)):
+            self.assertGreater(told.count(answer), least)
 
 
 def changed(numbers, changes):

@@ -1,7 +1,8 @@
-"""The book of document 01: opening, feeding, closing, the report, and the exact requirement.
+"""The book of document 01: opening, feeding, closing, the report, the exact requirement, and the joining of two books (request L8).
 
 It keeps the list of lines still standing. A mark notes that list under its name, and a return takes a noted list up again (request L6): nothing
-else is kept of the book at a mark, and counts and index values are found anew from the list.
+else is kept of the book at a mark, and counts and index values are found anew from the list. A joined book is one book fed the lines standing in
+both: nothing is added up but the headers.
 
 A loan's two numbers are free within a distance, so the report is computed from given sums of them,
 and `sum_bounds` tells which sums are allowed.
@@ -234,6 +235,12 @@ class Book:
             self._add(line, form)
         return 0
 
+    def copy(self):
+        """A book of its own with the same lines standing, and no marks."""
+        other = Book(self.loans, self.unscored, self.fresh, self.held, self.sheet)
+        other._take_up(self.standing)
+        return other
+
     @property
     def taken(self):
         """The forms of the lines still standing."""
@@ -333,6 +340,83 @@ def open_book(line, sheet=None):
     return Book(*form.values, sheet)
 
 
+def no_book():
+    """What stands for a book after a refused opening: one of an all-zero header under the built-in table, with no line taken."""
+    return Book(0, 0, 0, 0)
+
+
+def _index_values(found):
+    """The areas, months and values that the index lines still standing set."""
+    return {form.values for form in found.taken if form.kind == "index"}
+
+
+def _other_lines(*books):
+    """How many lines still standing in the books are not loans, where the index lines of the first alone count."""
+    count = sum(form.kind == "index" for form in books[0].taken)
+    return count + sum(not is_loan(form) and form.kind != "index" for found in books for form in found.taken)
+
+
+def _in_range(kind, place, number):
+    """Whether the number at that place of a form lies in its range."""
+    low, high = next(ranges for name, _, ranges in forms.FORMS if name == kind)[place]
+    return low <= number <= high
+
+
+def added_header(a, b):
+    """Request L8: loans, unscored, fresh and held of the two headers, added."""
+    return a.loans + b.loans, a.unscored + b.unscored, a.fresh + b.fresh, a.held + b.held
+
+
+def _keeps_column(own, loans, fresh):
+    return own.loans == 0 or loan.on_aged_table(own.loans, own.fresh) == loan.on_aged_table(loans, fresh)
+
+
+def _keeps_factor(own, loans, unscored):
+    """Whether the loans without a score have the same factor under both headers, where the book's own counts any."""
+    if own.loans == 0 or own.unscored == 0:
+        return True
+    return loan.credit_factor(None, own.aged, own.loans, own.unscored) == loan.credit_factor(None, own.aged, loans, unscored)
+
+
+# What two books must have to be joined (request L8), each by a name.
+CONDITIONS = ("sheet", "index", "loans", "held", "lines", "column of the first", "column of the second", "factor of the first", "factor of the second")
+
+
+def wanting(a, b):
+    """The names of the conditions that are wanting for two books to be joined."""
+    loans, unscored, fresh, held = added_header(a, b)
+    kept = (
+        (a.sheet or sheets.BUILT_IN) == (b.sheet or sheets.BUILT_IN),
+        _index_values(a) == _index_values(b),
+        _in_range("book", 0, loans),
+        _in_range("book", 3, held),
+        _other_lines(a, b) <= OTHER_LINES,
+        *(_keeps_column(own, loans, fresh) for own in (a, b)),
+        *(_keeps_factor(own, loans, unscored) for own in (a, b)),
+    )
+    return [name for name, holds in zip(CONDITIONS, kept, strict=True) if not holds]
+
+
+def lines_of_both(a, b):
+    """The lines still standing in two books: the index lines, which count once, and the others."""
+    indexed = [line for line, form in a.standing if form.kind == "index"]
+    return indexed, [line for found in (a, b) for line, form in found.standing if form.kind != "index"]
+
+
+def join(a, b):
+    """0 and the joined book, or 16 and the value of a refused opening; both books stay as they are.
+
+    The joined book is one with the added header that was fed the lines still standing in both, index lines once and first.
+    """
+    if wanting(a, b):
+        return 16, no_book()
+    joined = Book(*added_header(a, b), a.sheet)
+    for lines in lines_of_both(a, b):
+        refused = [line for line in lines if joined.feed(line)]
+        assert not refused, "a joined book takes every line"
+    return 0, joined
+
+
 def split_lines(data):
     """A line ends at a newline or at the end of the input; a newline at the very end begins no further line."""
     lines = data.split(b"\n")
@@ -353,3 +437,16 @@ def run(data, sheet=None):
             return refusal, number
     refusal = book.closing_refusal()
     return (refusal, len(lines) + 1) if refusal else book
+
+
+def run_joined(inputs, sheet=None):
+    """The book of several inputs joined from the first on; or the refusal of the first that is refused, with its line; or 16 and the number of the one that cannot be joined."""
+    joined = None
+    for number, data in enumerate(inputs, 1):
+        found = run(data, sheet)
+        if isinstance(found, tuple):
+            return found
+        refusal, joined = (0, found) if joined is None else join(joined, found)
+        if refusal:
+            return refusal, number
+    return joined

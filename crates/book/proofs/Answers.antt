@@ -116,6 +116,7 @@ pub without-marks : {s : State} → Sound s → Sound (stateAt (s .book) (s .rat
 without-marks {s} h = record {
   book = h .book;
   rates = h .rates;
+  rates-size = h .rates-size;
   cells = h .cells;
   cells-size = h .cells-size;
   index = h .index;

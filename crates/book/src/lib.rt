@@ -12,7 +12,7 @@ ghost use Rattle.line_forms.specs.Claims.{lineContent};
 ghost use Rattle.figures.specs.Sums.{Bounded, InLimits, plus, noSums};
 ghost use Rattle.report.specs.Line.{Written};
 ghost use Rattle.book_model.specs.Accepted.{loanRefusal, otherRefusal, indexRefusal};
-ghost use Rattle.book_model.specs.Calls.{stateAt, basisAt, countsOf, openedOf, fedOf, emptyBook, openingFor, opening, tableWith, feedingLine, feeding};
+ghost use Rattle.book_model.specs.Calls.{stateAt, basisAt, countsOf, openedOf, fedOf, openingFor, opening, tableWith, feedingLine, feeding};
 ghost use Rattle.book_model.specs.Calls.{SoundBook, Sound};
 ghost use Rattle.book_model.specs.Calls.{reportSize, reportOf, closing, closed, closingCells, closedCells};
 ghost use Rattle.book_model.specs.HouseIndex.{adjustmentOf, valuesAt, indexWith};
@@ -21,7 +21,6 @@ ghost use Rattle.book_model.specs.Marks.{noMarks};
 ghost use Rattle.book_model.specs.Ranges.{Ranged, LoanRanges, IndexRanges};
 ghost use Rattle.book_model.specs.Share.{loanShare};
 ghost use Rattle.book_model.specs.Steps.{notOpened, answerWith};
-ghost use Rattle.book_model.specs.Terms.{zeroHeader};
 use book_model::Book;
 use book_model::Closed;
 use book_model::Fed;
@@ -45,28 +44,6 @@ const REPORT_SIZE: usize = 512;
 // A buffer for the table of cells has at least so many.
 const CELLS_SIZE: usize = 8192;
 
-// A book with no line taken.
-fn empty(header: Header) -> Book
-    ensures { λ r. ⌜ r ≡ emptyBook header ⌝ }
-{
-    Book {
-        header,
-        sums: figures::none(),
-        indexed: 0,
-    }
-}
-
-fn zero_header() -> Header
-    ensures { λ r. ⌜ r ≡ zeroHeader ⌝ }
-{
-    Header {
-        loans: 0,
-        unscored: 0,
-        fresh: 0,
-        held: 0,
-    }
-}
-
 // The value of a refused opening: an all-zero header, under the regulator's table.
 fn refused(refusal: u64, rates: &mut Rates) -> Opened
     ensures equation { λ r. ⌜ r ≡ notOpened refusal ⌝ }
@@ -75,7 +52,7 @@ fn refused(refusal: u64, rates: &mut Rates) -> Opened
     *rates = sheet::built_in_rates();
     Opened {
         refusal,
-        book: empty(zero_header()),
+        book: book_model::refused(),
     }
 }
 
@@ -88,7 +65,7 @@ fn open_under(header: Header, sheet: &[u64], rates: &mut Rates) -> Opened
         sheet::fill(rates, sheet);
         return Opened {
             refusal: 0,
-            book: empty(header),
+            book: book_model::empty(header),
         };
     }
     refused(10, rates)

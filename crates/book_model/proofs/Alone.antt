@@ -1,6 +1,6 @@
 -- The lines still standing, fed alone to a book just opened. Assumes nothing.
 use mathlib.Core.Path.{_≡_, refl, sym, _∙_, ap, ap₂, subst}
-use mathlib.Core.Bool.{Bool, true, false, true≢false}
+use mathlib.Core.Bool.{Bool, true, false}
 use mathlib.Core.List.{List, [], _∷_, _++_}
 use Prim.Native.Nat.{ℕ, zero, suc}
 use lib.Dec.{eqb}
@@ -19,33 +19,23 @@ use Rattle.book_model.specs.Accepted.{withMark, accept}
 use Rattle.book_model.specs.Calls.{State, opening}
 use Rattle.book_model.specs.Demand3.{afterLines}
 use Rattle.book_model.specs.History.{History, opened, fed, allFed, headerLine, sheetOf, termsOf, acceptedOf, linesTaken}
-use Rattle.book_model.specs.LineKinds.{ofMark, contentKind}
+use Rattle.book_model.specs.LineKinds.{ofMark, contentKind, kindOf}
 use Rattle.book_model.specs.Marks.{Kept}
 use Rattle.book_model.specs.Standing.{SameBook, standingAlone}
 use Rattle.book_model.specs.Terms.{Terms, Basis, basisOf}
-use Rattle.book_model.proofs.Demand3.{one-more, terms-stay, reached}
+use Rattle.book_model.proofs.Demand3.{terms-stay, reached}
 use Rattle.book_model.proofs.FreshScores.{opened-with, stays}
-use Rattle.book_model.proofs.Ledger.{accepts, leaves}
+use Rattle.book_model.proofs.Ledger.{Plain, taken-plain, accepts, leaves}
 use Rattle.book_model.proofs.MarkRows.{HeldMark, a-mark, no-mark, held-mark}
 use Rattle.book_model.proofs.Steps.{stateOf}
+use Rattle.book_model.proofs.TakenWhole.{unmarked, InTurn, one-in-turn, taken-in-turn, none-taken}
 
--- a line that is neither a mark nor a return
-abbrev pub Plain : List ℕ → Type 0
-Plain s = (m : MarkLine) → lineContent (lineOf s) ≡ mark m → ⊥
-
-abbrev pub bare : List (List ℕ) → Accepted
-bare kept = record { kept = kept; notes = [] }
-
--- lines of which each meets no refusal after those before it
-pub data Chain (t : Terms) : List (List ℕ) → Type 0 where
-  none : Chain t []
-  more : {kept : List (List ℕ)} → Chain t kept → (s : List ℕ) → refusalOf t (bare kept) s ≡ 0 → Plain s → Chain t (kept ++ (s ∷ []))
-
+-- the lists noted under marks, each taken line by line
 unfoldable Chains : Terms → List Note → Type 0
 Chains t [] = Unit {0}
-Chains t (n ∷ notes) = Chain t (n .list) × Chains t notes
+Chains t (n ∷ notes) = InTurn t [] (n .list) × Chains t notes
 
-chains-more : (t : Terms) (notes : List Note) (n : Note) → Chains t notes → Chain t (n .list) → Chains t (notes ++ (n ∷ []))
+chains-more : (t : Terms) (notes : List Note) (n : Note) → Chains t notes → InTurn t [] (n .list) → Chains t (notes ++ (n ∷ []))
 unfolding Chains
 chains-more t [] n h k = (k, tt)
 chains-more t (m ∷ notes) n h k = (h .0, chains-more t notes n (h .1) k)
@@ -56,21 +46,18 @@ chains-first t zero notes h = tt
 chains-first t (suc k) [] h = tt
 chains-first t (suc k) (n ∷ notes) h = (h .0, chains-first t k notes (h .1))
 
-chain-at : (t : Terms) (k : ℕ) (notes : List Note) → Chains t notes → Chain t (getD notes k noNote .list)
-unfolding Chains
-chain-at t k [] h = none
+chain-at : (t : Terms) (k : ℕ) (notes : List Note) → Chains t notes → InTurn t [] (getD notes k noNote .list)
+unfolding Chains InTurn
+chain-at t k [] h = tt
 chain-at t zero (n ∷ notes) h = h .0
 chain-at t (suc k) (n ∷ notes) h = chain-at t k notes (h .1)
 
 record Chained (t : Terms) (a : Accepted) : Type 0 where
-  pub kept : Chain t (a .kept)
+  pub kept : InTurn t [] (a .kept)
   pub notes : Chains t (a .notes)
 
-plain-of : {c : Content} → ((A : Type 0) (f : MarkLine → A) (x : A) → ofMark f x c ≡ x) → (m : MarkLine) → c ≡ mark m → ⊥
-plain-of k m e = true≢false (sym (ap (ofMark (λ (y : MarkLine). true) false) e) ∙ k Bool (λ (y : MarkLine). true) false)
-
 -- marks decide no refusal but those of marks
-by-kind : (g : Basis) (c : Counts) (k l : Kept) (n : ℕ) (d : Content) → ((m : MarkLine) → d ≡ mark m → ⊥) →
+by-kind : (g : Basis) (c : Counts) (k l : Kept) (n : ℕ) (d : Content) → Plain (contentKind n d) →
     refusalFor g c k (contentKind n d) ≡ refusalFor g c l (contentKind n d)
 unfolding refusalFor contentKind
 by-kind g c k l n (header h) p = refl
@@ -80,7 +67,7 @@ by-kind g c k l n (derivative d) p = refl
 by-kind g c k l n (asset x) p = refl
 by-kind g c k l n (amount x) p = refl
 by-kind g c k l n (index i) p = refl
-by-kind g c k l n (mark m) p = absurd (p m refl)
+by-kind g c k l n (mark m) p = absurd p
 by-kind g c k l n NoForm p = refl
 
 accept-chained : (t : Terms) (a : Accepted) (s : List ℕ) → Chained t a → Chained t (accept t a s)
@@ -96,10 +83,10 @@ accept-chained t a s h = go (eqb (refusalOf t a s) 0) refl
     of-either : {c : Content} → HeldMark c → lineContent (lineOf s) ≡ c → refusalOf t a s ≡ 0 → Chained t (ofMark (withMark a) (added a s) c)
     of-either (a-mark m) f e = of-mark (m .back) (m .name)
     of-either {c} (no-mark k) f e =
-        let p : Plain s = λ m g. plain-of k m (sym f ∙ g) in
+        let p : Plain (kindOf (lineOf s)) = taken-plain (basisOf t (a .kept)) (countsIn (a .kept)) (keptBy (a .notes)) s e (λ A g x. ap (ofMark g x) f ∙ k A g x) in
         rw (k Accepted (withMark a) (added a s))
         (record {
-          kept = more (h .kept) s
+          kept = one-in-turn t (a .kept) s (h .kept)
               (sym (by-kind (basisOf t (a .kept)) (countsIn (a .kept)) (keptBy (a .notes)) (keptBy []) (lineRefusal (lineOf s)) (lineContent (lineOf s)) p)
               ∙ e) p;
           notes = h .notes;
@@ -113,36 +100,16 @@ accept-chained t a s h = go (eqb (refusalOf t a s) 0) refl
 
 -- every history's ledger is such
 chained-of : (past : History) → Chained (termsOf past) (acceptedOf past)
-unfolding acceptedOf termsOf Chains
-chained-of (opened sheet first) = record { kept = none; notes = tt }
+unfolding acceptedOf termsOf Chains InTurn
+chained-of (opened sheet first) = record { kept = tt; notes = tt }
 chained-of (fed past line) = accept-chained (termsOf past) (acceptedOf past) line (chained-of past)
 
--- Such lines are all taken, in their order.
-fed-more : (past : History) (lines : List (List ℕ)) (line : List ℕ) → allFed past (lines ++ (line ∷ [])) ≡ fed (allFed past lines) line
-unfolding allFed
-fed-more past [] line = refl
-fed-more past (s ∷ lines) line = fed-more (fed past s) lines line
-
-chain-taken : (sheet first : List ℕ) {kept : List (List ℕ)} → Chain (termsOf (opened sheet first)) kept →
-    acceptedOf (allFed (opened sheet first) kept) ≡ bare kept
-unfolding acceptedOf allFed
-chain-taken sheet first none = refl
-chain-taken sheet first (more {kept} c s e p) =
-    let t = termsOf (opened sheet first) in
-    ap acceptedOf (fed-more (opened sheet first) kept s) ∙ sym (one-more (allFed (opened sheet first) kept) s .1)
-    ∙ ap (λ (u : Terms). accept u (acceptedOf (allFed (opened sheet first) kept)) s) (terms-stay (opened sheet first) kept)
-    ∙ ap (λ (a : Accepted). accept t a s) (chain-taken sheet first c)
-    ∙ accepts t (bare kept) s e
-    ∙ go (held-mark (lineContent (lineOf s))) refl
-  where
-    go : {c : Content} → HeldMark c → lineContent (lineOf s) ≡ c → ofMark (withMark (bare kept)) (added (bare kept) s) c ≡ added (bare kept) s
-    go (a-mark m) f = absurd (p m f)
-    go (no-mark k) f = k Accepted (withMark (bare kept)) (added (bare kept) s)
-
 -- The lines still standing of any history, fed alone, are all taken, in their order, and no mark is kept;
-pub alone : (past : History) → acceptedOf (standingAlone past) ≡ bare (linesTaken past)
+pub alone : (past : History) → acceptedOf (standingAlone past) ≡ unmarked (linesTaken past)
 unfolding termsOf
-alone past = chain-taken (sheetOf past) (headerLine past) (subst (λ (t : Terms). Chain t (linesTaken past)) (opened-with past) (chained-of past .kept))
+alone past =
+    taken-in-turn (opened (sheetOf past) (headerLine past)) [] (linesTaken past) (none-taken (sheetOf past) (headerLine past))
+    (subst (λ (t : Terms). InTurn t [] (linesTaken past)) (opened-with past) (chained-of past .kept))
 
 -- they give the same book
 pub alone-state : (past : History) →

@@ -316,7 +316,7 @@ measured-of t r kept h =
 
 -- Order
 
-permuted-map : {A B : Type 0} (f : A → B) {xs ys : List A} → List·Permᴰ xs ys → List·Permᴰ (map f xs) (map f ys)
+pub permuted-map : {A B : Type 0} (f : A → B) {xs ys : List A} → List·Permᴰ xs ys → List·Permᴰ (map f xs) (map f ys)
 permuted-map f List·Permᴰ·nil = List·Permᴰ·nil
 permuted-map f (List·Permᴰ·cons e p) = List·Permᴰ·cons (ap f e) (permuted-map f p)
 permuted-map f (List·Permᴰ·swap e g) = List·Permᴰ·swap (ap f e) (ap f g)

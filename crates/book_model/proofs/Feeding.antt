@@ -6,15 +6,16 @@ use mathlib.Core.Logic.{_↔_, ⊎-elim}
 use Prim.Native.Nat.{ℕ, zero, suc, _+_, _*_, _≤_, _<_}
 use native.Mathlib.Omega.{arith}
 use lib.Dec.{T, eqb, leb, ltb, eqb→eq}
-use lib.ListN.{length, getD, set, drop, length-drop, length-set, length-replicate}
+use lib.ListN.{length, getD, set, drop, length-drop, length-map, length-set, length-replicate}
 use lib.Seq.{length-take-le, getD-set-same, getD-set-other, set-out}
 use borrow.Author.Tests.{ltb-true, ltb-false, leb-false, eqb-true, eqb-false}
 use Rattle.exact.specs.Choice.{pick}
 use Rattle.loan_charge.specs.Charge.{Chargeable}
-use Rattle.loan_charge.specs.CreditFactor.{RatesInRange}
+use Rattle.loan_charge.specs.CreditFactor.{hundredths, builtInSheet, ratesOf, ratePlaces, RatesInRange}
 use Rattle.loan_charge.specs.declared.Score.{Score}
 use Rattle.loan_charge.proofs.CreditLaws.{built-in}
-use Rattle.sheet.proofs.Loading.{in-range}
+use Rattle.sheet.specs.Sheet.{SheetRules}
+use Rattle.sheet.proofs.Loading.{in-range, built-in as built-in-rules}
 use Rattle.sheet.proofs.Rules.{rules}
 use Rattle.line_forms.specs.declared.Content.{Content}
 use Rattle.line_forms.specs.declared.Header.{Header}
@@ -76,26 +77,33 @@ unfolding noMarks
 no-marks-sound h = record { rows = no-marks-length; each = λ i k. absurd (omega (arith, k, unnamed 8 i)) }
 
 -- just opened under rates in range
-empty-state : (t : Terms) → HeaderRanges (t .header) → RatesInRange (t .rates) → Sound (emptyState t)
+empty-state : (t : Terms) → HeaderRanges (t .header) → RatesInRange (t .rates) → length (t .rates) ≡ ratePlaces → Sound (emptyState t)
 unfolding noCells
-empty-state t h r = record {
+empty-state t h r n = record {
   book = empty-sound (t .header) h;
   rates = r;
+  rates-size = n;
   cells = no-cells-bounded 0;
   cells-size = length-replicate {A = ℕ} 240 0;
   index = none-sound;
   marks = no-marks-sound (t .header);
 }
 
+-- as many rates as a sheet has factors
+rates-length : (sheet : List ℕ) → SheetRules sheet → length (ratesOf sheet) ≡ ratePlaces
+rates-length sheet r = length-map sheet hundredths ∙ r .size
+
 pub refused-sound : Sound (emptyState refusedTerms)
-refused-sound = empty-state refusedTerms (record { loans = omega arith; scores = omega arith; held = omega arith }) built-in
+refused-sound =
+    empty-state refusedTerms (record { loans = omega arith; scores = omega arith; held = omega arith }) built-in (rates-length builtInSheet built-in-rules)
 
 pub opening-sound : (sheet : List ℕ) (l : HeaderLine) → RangedHeader l → Sound (openingFor sheet l .state)
 opening-sound sheet l r = go (caseOf sheet l) r
   where
     go : {l : HeaderLine} → Case sheet l → RangedHeader l → Sound (openingFor sheet l .state)
     go (book-opens h e) r =
-        subst (λ (a : Answer). Sound (a .state)) (sym (sheet-passes sheet h e)) (empty-state (underSheet h sheet) r (in-range sheet (rules sheet e)))
+        subst (λ (a : Answer). Sound (a .state)) (sym (sheet-passes sheet h e)) (empty-state (underSheet h sheet) r (in-range sheet (rules sheet e))
+        (rates-length sheet (rules sheet e)))
     go (sheet-refused h e) r = subst (λ (a : Answer). Sound (a .state)) (sym (sheet-fails sheet h e)) refused-sound
     go (header-refused n) r = subst (λ (a : Answer). Sound (a .state)) (sym (header-fails sheet n)) refused-sound
 
@@ -254,6 +262,7 @@ back-sound s row h k l =
     record {
       book = r .book;
       rates = h .rates;
+      rates-size = h .rates-size;
       cells = r .cells;
       cells-size = row-cells (getD (s .marks) row []) (r .size);
       index = r .index;
@@ -276,6 +285,7 @@ marked-sound : (s : State) (name : ℕ) → Sound s → Sound (marked s name)
 marked-sound s name h = record {
   book = h .book;
   rates = h .rates;
+  rates-size = h .rates-size;
   cells = h .cells;
   cells-size = h .cells-size;
   index = h .index;
@@ -336,6 +346,7 @@ added-sound s l h r = go (eqb (refusalIn s l) 0) refl
         record {
           book = more-sound (indexLine (lineContent l)) (h .book) (share-bounded u (lineContent l) r has) (room-line s l (h .book) e);
           rates = h .rates;
+          rates-size = h .rates-size;
           cells = cells-more (s .cells) (s .book .sums .counts .loans) u (lineContent l) r has (h .cells);
           cells-size = cells-keep (basisIn s) (lineContent l) (s .cells) ∙ h .cells-size;
           index = index-sound (lineContent l) r (taken-unset (basisIn s) (countsOf (s .book)) (keptIn (s .marks)) (lineRefusal l) e) (h .index);

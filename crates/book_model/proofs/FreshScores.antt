@@ -43,7 +43,7 @@ unfolding columnServing
 aged-table sheet r h e number age = rw (aged-serves h .1 e) at (own-factors .scored sheet r h number age)
 
 -- The state of the lines taken is one that opening and feeding give, and so keeps to the header's counts.
-taken-sound : (past : History) → Sound (stateOf (termsOf past) (acceptedOf past))
+pub taken-sound : (past : History) → Sound (stateOf (termsOf past) (acceptedOf past))
 taken-sound (opened sheet line) = subst Sound (opened-is sheet line) (demand1 .opening-sound sheet line)
 taken-sound (fed past line) = subst Sound (fed-is past line) (demand1 .feeding-sound (stateOf (termsOf past) (acceptedOf past)) line (taken-sound past))
 
@@ -57,7 +57,7 @@ met : (past : History) → CountsReached (termsOf past .header) (countsIn (lines
 met past (l, u, f) = let (a, b, c) = kept past in (omega (arith, l, a), omega (arith, u, b), omega (arith, f, c))
 
 -- the same lines count alike
-counts-permuted : (t : Terms) {lines others : List (List ℕ)} → List·Permᴰ lines others → countsIn lines ≡ countsIn others
+pub counts-permuted : (t : Terms) {lines others : List (List ℕ)} → List·Permᴰ lines others → countsIn lines ≡ countsIn others
 counts-permuted t {lines} {others} p =
     sym (counts t lines) ∙ ap₂ withIndexed (λ i. sums-permuted t p i .counts) (sum-permuted indexLine p) ∙ counts t others
 

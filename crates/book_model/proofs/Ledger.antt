@@ -1,6 +1,6 @@
 -- What the accepted lines keep to: no value of the index is set twice, and every loan has its values. Assumes nothing.
 use mathlib.Core.Path.{_≡_, refl, sym, _∙_, ap, ap₂, subst}
-use mathlib.Core.Bool.{Bool, true, false, _&&_}
+use mathlib.Core.Bool.{Bool, true, false, _&&_, true≢false}
 use mathlib.Core.List.{List, [], _∷_, _++_, List·Memᴰ, List·Memᴰ·head, List·Memᴰ·tail, List·Memᴰ·not-nil}
 use mathlib.Core.Logic.{_⊎_, inl, inr, ⊎-elim}
 use Prim.Native.Nat.{ℕ, zero, suc, _+_, _≤_, _<_}
@@ -16,14 +16,18 @@ use Rattle.line_forms.specs.declared.MarkLine.{MarkLine}
 use Rattle.line_forms.specs.declared.Content.{Content}
 use Rattle.line_forms.specs.declared.Content.the-variants.{Header as header, Loan as loan, Policy as policy, Derivative as derivative, Asset as asset}
 use Rattle.line_forms.specs.declared.Content.the-variants.{Amount as amount, Index as index, Mark as mark, NoForm}
+use Rattle.line_forms.specs.declared.Line.{Line}
+use Rattle.line_forms.specs.declared.Line.the-variants.{Loan as LoanLine, Policy as PolicyLine, Derivative as DerivativeLine, Asset as AssetLine}
+use Rattle.line_forms.specs.declared.Line.the-variants.{Amount as AmountLine, Index as IndexLine, Mark as MarkRead, Refusal}
 use Rattle.line_forms.specs.Claims.{lineRefusal, lineContent}
 use Rattle.line_forms.specs.Readings.{lineOf}
+use Rattle.line_forms.proofs.LineLaws.{line-numbers}
 use Rattle.figures.specs.declared.Counts.{Counts}
 use Rattle.book_model.specs.Accepted.{Note, Accepted, countsIn, loanBeyond, mostOther, refusalFor, namesOf, keptBy, refusalOf, noNote, placeOfNote}
 use Rattle.book_model.specs.Accepted.{takenUp, noted, added, withMark, accept}
 use Rattle.book_model.specs.History.{History, opened, fed, termsOf, acceptedOf, linesTaken}
 use Rattle.book_model.specs.HouseIndex.{Index, adjustmentOf, lacking, setBy, valuesIn}
-use Rattle.book_model.specs.LineKinds.{a-loan, an-index, ofMark, contentKind, sumBy}
+use Rattle.book_model.specs.LineKinds.{LineKind, a-loan, an-index, a-mark as mark-kind, another, refused, ofMark, contentKind, kindOf, sumBy}
 use Rattle.book_model.specs.Marks.{mostMarks, placeAmong, isAmong, Kept, markRefusal}
 use Rattle.book_model.specs.Ranges.{IndexRanges, MarkRanges, Ranged}
 use Rattle.book_model.specs.Terms.{Terms, Basis, basisOf}
@@ -111,7 +115,7 @@ set-line (s ∷ kept) area month h = go (setBy area month (lineContent (lineOf s
     go zero e h rest = let (r, m, k) = rest (omega arith) in (r, List·Memᴰ·tail m, k)
     go (suc n) e h rest = (s, List·Memᴰ·head refl, sets (lineContent (lineOf s)) area month (omega (arith, e)))
 
-own-value : (i : IndexValue) → setBy (i .area) (i .month) (index i) ≡ i .value
+pub own-value : (i : IndexValue) → setBy (i .area) (i .month) (index i) ≡ i .value
 own-value i = rw (eq-eqb (i .area) (i .area) refl, eq-eqb (i .month) (i .month) refl) refl
 
 pub line-sets : (kept : List (List ℕ)) (s : List ℕ) (i : IndexValue) → List·Memᴰ s kept → lineContent (lineOf s) ≡ index i →
@@ -121,8 +125,35 @@ line-sets (r ∷ kept) s i (List·Memᴰ·head e) f =
     omega (arith, ap (setBy (i .area) (i .month)) (ap (λ (x : List ℕ). lineContent (lineOf x)) (sym e) ∙ f) ∙ own-value i)
 line-sets (r ∷ kept) s i (List·Memᴰ·tail m) f = omega (arith, line-sets kept s i m f)
 
+-- what is added: a loan, an index value, or another line that counts
+abbrev pub Plain : LineKind → Type 0
+Plain (a-loan l) = Unit {0}
+Plain (an-index i) = Unit {0}
+Plain (mark-kind m) = ⊥
+Plain another = Unit {0}
+Plain (refused n) = ⊥
+
+pub taken-plain : (g : Basis) (c : Counts) (k : Kept) (s : List ℕ) → refusalFor g c k (kindOf (lineOf s)) ≡ 0 →
+    ((A : Type 0) (f : MarkLine → A) (x : A) → ofMark f x (lineContent (lineOf s)) ≡ x) → Plain (kindOf (lineOf s))
+unfolding refusalFor contentKind
+taken-plain g c k s e n = go (lineOf s) refl e n
+  where
+    go : (l : Line) → lineOf s ≡ l → refusalFor g c k (kindOf l) ≡ 0 → ((A : Type 0) (f : MarkLine → A) (x : A) → ofMark f x (lineContent l) ≡ x) →
+        Plain (kindOf l)
+    go (LoanLine l) f e n = tt
+    go (PolicyLine p) f e n = tt
+    go (DerivativeLine d) f e n = tt
+    go (AssetLine a) f e n = tt
+    go (AmountLine a) f e n = tt
+    go (IndexLine i) f e n = tt
+    go (MarkRead m) f e n = absurd (true≢false (n Bool (λ x. true) false))
+    go (Refusal r) f e n =
+        ⊎-elim (λ x. omega (arith, e, x)) (⊎-elim (λ x. omega (arith, e, x)) (⊎-elim (λ x. omega (arith, e, x)) (λ x. omega (arith, e, x))))
+        (line-numbers s r f)
+
 -- Lines of which no two set the same value, and whose loans have their values
 pub record Good (kept : List (List ℕ)) : Type 0 where
+  pub plain : (s : List ℕ) → List·Memᴰ s kept → Plain (kindOf (lineOf s))
   pub settled : Settled (valuesIn kept) kept
   pub once : (s : List ℕ) (i : IndexValue) → List·Memᴰ s kept → lineContent (lineOf s) ≡ index i → valuesIn kept (i .area) (i .month) ≡ i .value
 
@@ -189,10 +220,12 @@ module _ (t : Terms) (a : Accepted) (s : List ℕ) (e : refusalOf t a s ≡ 0) w
   pub line-has : Has before (lineContent (lineOf s))
   line-has = taken-has (basisOf t (a .kept)) (countsIn (a .kept)) (keptBy (a .notes)) (lineRefusal (lineOf s)) (lineContent (lineOf s)) e
 
-  pub taken-good : Good (a .kept) → Good (a .kept ++ (s ∷ []))
-  taken-good h =
+  pub taken-good : ((A : Type 0) (f : MarkLine → A) (x : A) → ofMark f x (lineContent (lineOf s)) ≡ x) → Good (a .kept) → Good (a .kept ++ (s ∷ []))
+  taken-good n h =
       let x : Extends before after = values-stay in
       record {
+        plain = λ r m. ⊎-elim (h .plain r) (λ f. subst (λ (y : List ℕ). Plain (kindOf (lineOf y))) (sym f)
+            (taken-plain (basisOf t (a .kept)) (countsIn (a .kept)) (keptBy (a .notes)) s e n)) (member-more (a .kept) s r m);
         settled = settled-more after (a .kept) s (still-settled before after x (a .kept) (h .settled))
             (still-has before after x (lineContent (lineOf s)) line-has);
         once = λ r i m c. ⊎-elim (among r i c) (itself r i c) (member-more (a .kept) s r m);
@@ -317,8 +350,9 @@ pub taken-up-is : (a : Accepted) (name : ℕ) →
 taken-up-is a name = λ i. record { kept = taken-up-list a name i; notes = taken-up-notes a name i }
 
 -- the ledger after each kind of line
-added-good : (t : Terms) (a : Accepted) (s : List ℕ) → refusalOf t a s ≡ 0 → GoodLedger a → GoodLedger (added a s)
-added-good t a s e h = record { kept = taken-good t a s e (h .kept); notes = h .notes; most = h .most; distinct = h .distinct }
+added-good : (t : Terms) (a : Accepted) (s : List ℕ) → refusalOf t a s ≡ 0 →
+    ((A : Type 0) (f : MarkLine → A) (x : A) → ofMark f x (lineContent (lineOf s)) ≡ x) → GoodLedger a → GoodLedger (added a s)
+added-good t a s e n h = record { kept = taken-good t a s e n (h .kept); notes = h .notes; most = h .most; distinct = h .distinct }
 
 module _ (a : Accepted) (h : GoodLedger a) where
   noted-good : (name : ℕ) → 1 ≤ name → isAmong name (namesOf (a .notes)) ≡ false → length (a .notes) < 8 → GoodLedger (noted a name)
@@ -393,7 +427,8 @@ accept-good t a s h = go (eqb (refusalOf t a s) 0) refl
         let r : MarkRanges m = subst Ranged f (ranged s) in
         with-mark-good a h m (r .name-least)
         (subst (λ (c : Content). refusalFor (basisOf t (a .kept)) (countsIn (a .kept)) (keptBy (a .notes)) (contentKind (lineRefusal (lineOf s)) c) ≡ 0) f e)
-    of-either {c} (no-mark k) f e = rw (k Accepted (withMark a) (added a s)) (added-good t a s e h)
+    of-either {c} (no-mark k) f e = rw (k Accepted (withMark a) (added a s))
+        (added-good t a s e (λ A g x. ap (ofMark g x) f ∙ k A g x) h)
 
     go : (test : Bool) → eqb (refusalOf t a s) 0 ≡ test → GoodLedger (accept t a s)
     go true e =
@@ -403,7 +438,7 @@ accept-good t a s h = go (eqb (refusalOf t a s) 0) refl
 
 pub none-good : Good []
 unfolding Settled
-none-good = record { settled = tt; once = λ s i m c. absurd (List·Memᴰ·not-nil m) }
+none-good = record { plain = λ s m. absurd (List·Memᴰ·not-nil m); settled = tt; once = λ s i m c. absurd (List·Memᴰ·not-nil m) }
 
 -- Every history's ledger is such.
 pub ledger-of : (past : History) → GoodLedger (acceptedOf past)

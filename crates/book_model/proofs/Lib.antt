@@ -1,10 +1,12 @@
 pub mod AdjustedValues
 pub mod Adjustments
 pub mod Alone
+pub mod AsOneBook
 pub mod Bands
 pub mod BoundedShares
 pub mod Bounds
 pub mod Cells
+pub mod ChargedAlike
 pub mod Closings
 pub mod Demand1
 pub mod Dependence
@@ -17,6 +19,8 @@ pub mod FreshScores
 pub mod IndexTables
 pub mod Ledger
 pub mod LineNumbers
+pub mod Joining
+pub mod JoiningExamples
 pub mod LineSums
 pub mod LoanNumbers
 pub mod LoanTable
@@ -25,11 +29,14 @@ pub mod Openings
 pub mod OwnFactors
 pub mod Near
 pub mod Notes
+pub mod Places
 pub mod Ranged
 pub mod Required
 pub mod SetValues
 pub mod Shapes
+pub mod SplitLines
 pub mod Standing
 pub mod Steps
 pub mod Tables
+pub mod TakenWhole
 pub mod Tests

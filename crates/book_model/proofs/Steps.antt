@@ -150,7 +150,7 @@ module _ (t : Terms) (values others : Index) where
 
 -- The table of the accepted lines has the values that they set.
 module _ (kept : List (List ℕ)) (s : List ℕ) where
-  table-alike : Alike (valuesAt (indexOf kept)) (valuesIn kept) (lineContent (lineOf s))
+  pub table-alike : Alike (valuesAt (indexOf kept)) (valuesIn kept) (lineContent (lineOf s))
   table-alike l e =
       adjusted-alike (valuesAt (indexOf kept)) (valuesIn kept) l
       (λ t.

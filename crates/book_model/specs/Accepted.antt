@@ -1,7 +1,7 @@
 -- Which lines a book takes: document 01's ledger, here the accepted lines. It is given what the book is opened under and the lines in turn,
 -- no answer and nothing of a book. From request L3 on the forms and ranges of the requests of 02 that have landed count as document 01's,
 -- and a line is added only where no refusal named in them applies. Up to now these are 11 and 12 (L4), and 13 to 15 (L6) for marks and
--- returns, which are not added: at a mark the ledger notes its list, at a return it takes a noted list up again.
+-- returns, which are not added: at a mark the ledger notes its list, at a return it takes a noted list up again. 16 (L8) is met by no line.
 use Prim.Native.Nat.{ℕ, suc}
 use mathlib.Core.Bool.{Bool, _&&_, _||_}
 use mathlib.Core.List.{List, [], _∷_, _++_, map}

@@ -14,7 +14,7 @@ use Rattle.line_forms.specs.declared.Content.{Content}
 use Rattle.line_forms.specs.declared.Line.{Line}
 use Rattle.line_forms.specs.Claims.{lineContent}
 use Rattle.line_forms.specs.Readings.{lineOf, headerOf}
-use Rattle.loan_charge.specs.CreditFactor.{RatesInRange}
+use Rattle.loan_charge.specs.CreditFactor.{ratePlaces, RatesInRange}
 use Rattle.sheet.specs.Sheet.{sheetPasses}
 use Rattle.figures.specs.declared.Counts.{Counts}
 use Rattle.figures.specs.declared.Sums.{Sums}
@@ -173,6 +173,7 @@ pub record MarksSound (h : Header) (marks : List (List ℕ)) : Type 0 where
 pub record Sound (s : State) : Type 0 where
   pub book : SoundBook (s .book)
   pub rates : RatesInRange (s .rates)
+  pub rates-size : length (s .rates) ≡ ratePlaces
   pub cells : CellsBounded (s .cells) (4 * s .book .sums .counts .loans)
   pub cells-size : length (s .cells) ≡ 240
   pub index : IndexSound (s .index) (s .book .indexed)

@@ -1,5 +1,6 @@
 -- Demand 1: a book handed in is taken or turned down by a numbered refusal; a refused line changes nothing in the book, and a refused closing
--- writes nothing. Over the definitions that the contracts equate with the calls (Calls.antt); proved in proofs/Demand1.antt.
+-- writes nothing. Over the definitions that the contracts equate with the calls (Calls.antt); proved in proofs/Demand1.antt. What joining
+-- answers, 0 or 16, and gives is in Joining.antt.
 use Prim.Native.Nat.{ℕ, _≤_}
 use mathlib.Core.Path.{_≡_}
 use mathlib.Core.List.{List, [], _∷_, List·Memᴰ}

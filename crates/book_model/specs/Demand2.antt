@@ -1,7 +1,8 @@
 -- Demand 2: when, and only when, opening, feeding and closing are refused, and with which number (document 01, "Who can be turned down").
 -- From request L3 on the forms and ranges of the requests of 02 that have landed count as document 01's, and a book is opened and a line
 -- taken only where no refusal named in them applies. Up to now these are 10, for a sheet of factors, 11 and 12, for index values, and 13 to
--- 15, for marks; L5 adds fresh loans to what 4, 5 and 6 count. Where marks were returned to, the lines taken are those still standing.
+-- 15, for marks; L5 adds fresh loans to what 4, 5 and 6 count. 16 (L8) is met by no line: Joining.antt has it. Where marks were returned to,
+-- the lines taken are those still standing.
 -- Lines are spoken of by `bytesOf`, how a form's data is written, and not by any reader; counts by inequalities. Proved in
 -- proofs/Demand2.antt.
 use Prim.Native.Nat.{ℕ, _+_, _≤_, _<_}

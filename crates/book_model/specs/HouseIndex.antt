@@ -69,9 +69,13 @@ placeFor area month = area * 132 + ((month / 100 - 2005) * 12 + (month % 100 - 1
 abbrev pub valuesAt : (table : List ℕ) → Index
 valuesAt table area month = getD table (placeFor area month) 0
 
+-- twelve areas
+abbrev pub indexPlaces : ℕ
+indexPlaces = 1584
+
 -- no value set
 unfoldable pub noIndex : List ℕ
-noIndex = replicate 1584 0
+noIndex = replicate indexPlaces 0
 
 -- the table with what the data of a line sets
 unfoldable pub indexWith : Content → List ℕ → List ℕ
@@ -88,6 +92,6 @@ setPlaces (x ∷ table) = pick (eqb x 0) 0 1 + setPlaces table
 
 -- What opening and feeding assure of the table, where so many index lines are taken.
 pub record IndexSound (table : List ℕ) (indexed : ℕ) : Type 0 where
-  pub size : length table ≡ 1584
+  pub size : length table ≡ indexPlaces
   pub each : (i : ℕ) → getD table i 0 ≤ 1000000
   pub counted : indexed ≡ setPlaces table

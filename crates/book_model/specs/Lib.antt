@@ -8,8 +8,11 @@ pub mod Demand3
 pub mod Examples
 pub mod Exact
 pub mod FreshScores
+pub mod GivenState
 pub mod History
 pub mod HouseIndex
+pub mod Joining
+pub mod JoiningExamples
 pub mod LineKinds
 pub mod LineNumbers
 pub mod LoanTable

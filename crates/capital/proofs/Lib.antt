@@ -1,3 +1,4 @@
 pub mod CommandWords
+pub mod Files
 pub mod Sheets
 pub mod Turns

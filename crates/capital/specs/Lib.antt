@@ -1,2 +1,3 @@
 pub mod Arguments
+pub mod Files
 pub mod Reads

@@ -55,7 +55,7 @@ refused-byte s byte h = go (eqb byte newline)
 
 -- Bytes in turn are lines in turn.
 
-unfoldable withLines : Stage → List (List ℕ) → Stage
+unfoldable pub withLines : Stage → List (List ℕ) → Stage
 withLines p [] = p
 withLines p (line ∷ lines) = withLines (withLine p line) lines
 
@@ -64,7 +64,7 @@ unfolding withLines lastOf endedWith
 last-line p [] = refl
 last-line p (byte ∷ line) = cut-same p (byte ∷ line)
 
-bytes-lines : (input : List ℕ) (p : Stage) (line : List ℕ) →
+pub bytes-lines : (input : List ℕ) (p : Stage) (line : List ℕ) →
     ended (withBytes (record { stage = p; tail = take 241 line }) input) ≡ withLines p (linesFrom line input)
 unfolding withBytes linesFrom withLines
 bytes-lines [] p line = last-line p line

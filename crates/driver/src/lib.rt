@@ -14,7 +14,6 @@ use book_model::Book;
 use cell_report::Cells;
 use house_index::Index;
 use line_bytes::Tail;
-use line_forms::Header;
 use loan_charge::charge::Exponentials;
 use loan_charge::credit::Rates;
 use marks::Marks;
@@ -51,22 +50,11 @@ pub fn start(rates: &mut Rates, cells: &mut Cells, index: &mut Index, marks: &mu
     cells::clear(cells);
     house_index::clear(index);
     marks::clear(marks);
-    let header = Header {
-        loans: 0,
-        unscored: 0,
-        fresh: 0,
-        held: 0,
-    };
-    let book = Book {
-        header,
-        sums: figures::none(),
-        indexed: 0,
-    };
     Run {
         progress: Progress {
             refusal: 0,
             number: 1,
-            book,
+            book: book_model::refused(),
         },
         held: 0,
         tail: no_bytes(),
@@ -306,6 +294,41 @@ pub fn step(
     )
 }
 
+// The end of the input: a line that is held is ended, and read.
+pub fn end_input(
+    run: Run,
+    exps: &Exponentials,
+    sheet: &[u64],
+    rates: &mut Rates,
+    cells: &mut Cells,
+    index: &mut Index,
+    marks: &mut Marks,
+) -> Progress
+    requires { ⌜ Running run (now rates) (now cells) (now index) (now marks) × (run .read ≤ 2 ^ 62) × (now exps ≡ exponentials) ⌝ }
+    ensures equation { λ r.
+        ⌜ stageAt r (now (sheet .entry)) (now (rates .exit)) (now (cells .exit)) (now (index .exit)) (now (marks .exit)) ≡
+        ended (readingOf run (now (sheet .entry)) (now (rates .entry)) (now (cells .entry)) (now (index .entry)) (now (marks .entry))) ⌝ }
+    ensures sound { λ r. ⌜ Sound (stateAt (r .book) (now (rates .exit)) (now (cells .exit)) (now (index .exit)) (now (marks .exit))) ⌝ }
+{
+    let p = run.progress;
+    let unended = run.held;
+    if unended == 0 {
+        return p;
+    }
+    let mut tail = run.tail;
+    end_held(
+        p,
+        &mut tail,
+        unended,
+        exps,
+        sheet,
+        rates,
+        cells,
+        index,
+        marks,
+    )
+}
+
 // The end of the input: what is to be printed is written to the lent buffer, with the table of cells where it is asked for.
 pub fn finish(
     run: Run,
@@ -329,24 +352,7 @@ pub fn finish(
         (now (out .entry)) r
         (now (out .exit)) ⌝ }
 {
-    let p = run.progress;
-    let unended = run.held;
-    if unended == 0 {
-        let book = p.book;
-        return printing::put_answer(p.refusal, p.number, book, cells, asked, out);
-    }
-    let mut tail = run.tail;
-    let last = end_held(
-        p,
-        &mut tail,
-        unended,
-        exps,
-        sheet,
-        rates,
-        cells,
-        index,
-        marks,
-    );
+    let last = end_input(run, exps, sheet, rates, cells, index, marks);
     let book = last.book;
     printing::put_answer(last.refusal, last.number, book, cells, asked, out)
 }

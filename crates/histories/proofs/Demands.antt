@@ -1,8 +1,11 @@
 -- Demands 1 to 3 of the calls, and requests L1 and L3 to L6, from the theorems about the definitions that their contracts cite. Assumes nothing.
 use mathlib.Core.Path.{_≡_, refl, sym, _∙_, ap, ap₂, subst}
+use mathlib.Core.Bool.{Bool, true, false}
 use mathlib.Core.List.{List, [], _∷_, List·Memᴰ, List·Memᴰ·head, List·Memᴰ·tail, List·Memᴰ·not-nil}
 use Prim.Native.Nat.{ℕ, _≤_}
+use lib.Dec.{eqb}
 use lib.ListN.{length, take}
+use borrow.Author.Tests.{eqb-true, eqb-false}
 use Rattle.loan_charge.specs.CreditFactor.{builtInSheet, ratesOf}
 use Rattle.sheet.specs.Sheet.{SheetRules}
 use Rattle.line_forms.specs.declared.Header.{Header}
@@ -11,6 +14,7 @@ use Rattle.report.specs.Line.{onto}
 use Rattle.book_model.specs.declared.Book.{Book}
 use Rattle.book_model.specs.declared.Closed.{Closed}
 use Rattle.book_model.specs.declared.Fed.{Fed}
+use Rattle.book_model.specs.declared.Joined.{Joined}
 use Rattle.book_model.specs.declared.Opened.{Opened}
 use Rattle.book_model.specs.Accepted.{Accepted, countsIn, refusalOf}
 use Rattle.book_model.specs.Calls.{State, Answer, stateAt, termsIn, openedOf, fedOf, opening, feeding, closing, closed, closingCells, SoundBook, Sound}
@@ -20,17 +24,21 @@ use Rattle.book_model.specs.Demand3.{Writes, Closes, SameTexts, SameReports}
 use Rattle.book_model.specs.FreshScores.{CountsKept, CountsMet}
 use Rattle.book_model.specs.History.{History, fed, allFed, headerLine, sheetOf, termsOf, acceptedOf, linesTaken}
 use Rattle.book_model.specs.LoanTable.{WritesCells, SameTables}
+use Rattle.book_model.specs.GivenState.{stateGiven, IsOpened}
+use Rattle.book_model.specs.Joining.{mayJoin, joining, joinedOf, JoinedBooks}
 use Rattle.book_model.specs.HouseIndex.{InTable, valuesIn, valuesAt}
-use Rattle.book_model.specs.Marks.{namesIn}
+use Rattle.book_model.specs.Marks.{noMarks, namesIn}
 use Rattle.book_model.specs.Standing.{SameBook}
 use Rattle.book_model.specs.Terms.{Terms, basisOf, under}
 use Rattle.book_model.proofs.AdjustedValues.{adjusted-values}
 use Rattle.book_model.proofs.Alone.{alone, alone-state}
+use Rattle.book_model.proofs.AsOneBook.{state-given, sheet-of}
 use Rattle.book_model.proofs.Demand1.{demand1}
 use Rattle.book_model.proofs.Demand2.{openings, feeding-answer, closing-answer}
-use Rattle.book_model.proofs.Demand3.{opened-is, fed-is, terms-in-range, closes-of, measured-of, same-reports}
+use Rattle.book_model.proofs.Demand3.{terms-in-range, closes-of, measured-of, same-reports}
 use Rattle.book_model.proofs.Feeding.{rates-kept}
-use Rattle.book_model.proofs.FreshScores.{fresh-scores}
+use Rattle.book_model.proofs.FreshScores.{taken-sound, fresh-scores}
+use Rattle.book_model.proofs.Joining.{joining-holds}
 use Rattle.book_model.proofs.LoanTable.{cell-is, cell-sums, cells-written, same-tables}
 use Rattle.book_model.proofs.IndexTables.{values-are}
 use Rattle.book_model.proofs.Ledger.{ledger-of, good-of}
@@ -38,10 +46,11 @@ use Rattle.book_model.proofs.OwnFactors.{own-factors}
 use Rattle.book_model.proofs.SetValues.{not-set}
 use Rattle.book_model.proofs.Standing.{standing, marks, returned-to, line-fed}
 use Rattle.book_model.proofs.Steps.{stateOf, names-are}
+use Rattle.book.proofs.Answers.{without-marks}
 use Rattle.histories.specs.Demands.{CallsDemand1, CallsDemand2, CallsDemand3, CallsLoanTable, CallsOwnFactors, CallsAdjustedValues}
 use Rattle.histories.specs.Demands.{CallsFreshScores, CallsStanding}
 use Rattle.histories.specs.Given.{OpeningCall, by-open, by-open-sheet, FeedingCall, by-feed, by-feed-with, CloseCall, CellsCall}
-use Rattle.histories.specs.Given.{Given, by-opening, by-feeding}
+use Rattle.histories.specs.Given.{JoinCall, Given, by-opening, by-feeding, by-joining}
 use Rattle.histories.specs.Asked.{CallsAsked}
 
 -- What each call gave, by its contract
@@ -82,24 +91,66 @@ fed-by (by-feed c) =
 fed-by (by-feed-with c) =
     sym (c .gave) ∙ fed-parts _ _ (c .learnt .0) (c .learnt .1 .0) (c .learnt .1 .1 .0) (c .learnt .1 .1 .1 .0) ∙ ap₂ feeding (c .handed) (c .lent)
 
-closed-by : {b : Book} {buffer after : List ℕ} {r : Closed} → CloseCall b buffer r after → (r ≡ closing b (length buffer)) × (after ≡ closed b buffer)
+pub closed-by : {b : Book} {buffer after : List ℕ} {r : Closed} → CloseCall b buffer r after → (r ≡ closing b (length buffer)) × (after ≡ closed b buffer)
 closed-by c = (
   c .learnt .0 ∙ ap₂ (λ (x : Book) (l : List ℕ). closing x (length l)) (c .handed) (c .lent),
   sym (c .left) ∙ c .learnt .1 ∙ ap₂ (λ (x : Book) (l : List ℕ). closed x l) (c .handed) (c .lent),
 )
 
-cells-by : {b : Book} {cells buffer after : List ℕ} {r : Closed} → CellsCall b cells buffer r after → (r ≡ closingCells b cells (length buffer))
+pub cells-by : {b : Book} {cells buffer after : List ℕ} {r : Closed} → CellsCall b cells buffer r after → (r ≡ closingCells b cells (length buffer))
     × (after ≡ closedCells b cells buffer)
 cells-by c = (
   c .learnt .0 ∙ (λ i. closingCells (c .handed i) (c .table i) (length (c .lent i))),
   sym (c .left) ∙ c .learnt .1 ∙ (λ i. closedCells (c .handed i) (c .table i) (c .lent i)),
 )
 
+-- joining does not look at marks
+marks-unseen : (a b : State) → joining (stateAt (a .book) (a .rates) (a .cells) (a .index) noMarks) (stateAt (b .book) (b .rates) (b .cells) (b .index) noMarks) ≡
+    joining a b
+unfolding joining mayJoin
+marks-unseen a b = refl
+
+-- from the five parts that a contract tells
+join-parts : (a b : State) {r : Joined} {rates cells index : List ℕ} {marks : List (List ℕ)} → r ≡ joinedOf (joining a b) → rates ≡ joining a b .state .rates →
+    cells ≡ joining a b .state .cells → index ≡ joining a b .state .index → marks ≡ joining a b .state .marks →
+    record { refusal = r .refusal; state = stateAt (r .book) rates cells index marks } ≡ joining a b
+join-parts a b e f g k m = λ i. record { refusal = e i .refusal; state = stateAt (e i .book) (f i) (g i) (k i) (m i) }
+
+pub joined-by : {s u : State} {a : Answer} → JoinCall s u a → a ≡ joining s u
+joined-by {s} {u} c =
+    sym (c .gave)
+    ∙ join-parts _ _ (c .learnt .0) (c .learnt .1 .0) (c .learnt .1 .1 .0) (c .learnt .1 .1 .1 .0) (c .learnt .1 .1 .1 .1 .0)
+    ∙ ap₂ (λ (a b : State). joining (stateAt (a .book) (a .rates) (a .cells) (a .index) noMarks) (stateAt (b .book) (b .rates) (b .cells) (b .index) noMarks))
+    (c .first) (c .second)
+    ∙ marks-unseen s u
+
+-- the states of two opened histories whose joining was not refused
+pub joined-books : {h k : History} {s u : State} → (s ≡ stateGiven h) × IsOpened h → (u ≡ stateGiven k) × IsOpened k → {a : Answer} → JoinCall s u a →
+    a .refusal ≡ 0 → JoinedBooks h k
+joined-books (x, o) (y, p) c e =
+    record { first = o; second = p; joins = sym (ap (λ (r : Answer). r .refusal) (joined-by c ∙ ap₂ joining x y)) ∙ e }
+
+-- The state that the calls gave is that of their history, whose opening was not refused.
+pub given-opened : {h : History} {s : State} → Given h s → (s ≡ stateGiven h) × IsOpened h
+unfolding stateGiven sheetOf headerLine
+given-opened (by-opening sheet line a c e) =
+    (ap (λ (x : Answer). x .state) (opened-by c), sym (ap (λ (x : Answer). x .refusal) (opened-by c)) ∙ e)
+given-opened (by-feeding {h} {s} g line a c) =
+    let (f, o) = given-opened g in
+    (ap (λ (x : Answer). x .state) (fed-by c) ∙ ap (λ (x : State). feeding x line .state) f, o)
+given-opened (by-joining {h} {k} {s} {u} g f a c e) =
+    let (x, o) = given-opened g in
+    let (y, p) = given-opened f in
+    let same : a ≡ joining (stateGiven h) (stateGiven k) = joined-by c ∙ ap₂ joining x y in
+    let j : JoinedBooks h k = joined-books (x, o) (y, p) c e in
+    (ap (λ (r : Answer). r .state) same ∙ joining-holds .counts-as j, joining-holds .opens j)
+
+opens : {h : History} {s : State} → Given h s → opening (sheetOf h) (headerLine h) .refusal ≡ 0
+opens g = given-opened g .1
+
 -- The state that the calls gave is that of the lines taken.
 pub given : {h : History} {s : State} → Given h s → s ≡ stateOf (termsOf h) (acceptedOf h)
-given (by-opening sheet line a c e) = ap (λ (x : Answer). x .state) (opened-by c) ∙ opened-is sheet line
-given (by-feeding {h} {s} g line a c) =
-    ap (λ (x : Answer). x .state) (fed-by c) ∙ ap (λ (x : State). feeding x line .state) (given g) ∙ fed-is h line
+given {h} g = given-opened g .0 ∙ state-given h
 
 closes : {h : History} {s : State} → Given h s → Closes (termsOf h) (acceptedOf h) s
 closes {h} g = rw (given g) (closes-of (termsOf h) (acceptedOf h) (ledger-of h))
@@ -107,14 +158,22 @@ closes {h} g = rw (given g) (closes-of (termsOf h) (acceptedOf h) (ledger-of h))
 closes-cells : {h : History} {s : State} → Given h s → WritesCells (termsOf h) (acceptedOf h) s
 closes-cells {h} g = rw (given g) (cells-written (termsOf h) (acceptedOf h))
 
-sound : {h : History} {s : State} → Given h s → Sound s
-sound (by-opening sheet line a c e) = subst (λ (x : Answer). Sound (x .state)) (sym (opened-by c)) (demand1 .opening-sound sheet line)
-sound (by-feeding {h} {s} g line a c) = subst (λ (x : Answer). Sound (x .state)) (sym (fed-by c)) (demand1 .feeding-sound s line (sound g))
+pub sound : {h : History} {s : State} → Given h s → Sound s
+sound {h} g = subst Sound (sym (given g)) (taken-sound h)
+
+joining-numbers : {s u : State} {a : Answer} → JoinCall s u a → List·Memᴰ (a .refusal) (0 ∷ 16 ∷ [])
+joining-numbers {s} {u} {a} c = go (eqb (a .refusal) 0) refl
+  where
+    go : (t : Bool) → eqb (a .refusal) 0 ≡ t → List·Memᴰ (a .refusal) (0 ∷ 16 ∷ [])
+    go true e = List·Memᴰ·head (eqb-true (a .refusal) 0 e)
+    go false e = List·Memᴰ·tail (List·Memᴰ·head (ap (λ (r : Answer). r .refusal)
+        (joined-by c ∙ joining-holds .refused s u (λ z. eqb-false (a .refusal) 0 e (ap (λ (r : Answer). r .refusal) (joined-by c) ∙ z)))))
 
 pub calls-demand1 : CallsDemand1
 calls-demand1 = record {
   opening-numbers = λ {sheet} {line} {a} c. rw (opened-by c) (demand1 .opening-numbers sheet line);
   feeding-numbers = λ {s} {line} {a} c. rw (fed-by c) (demand1 .feeding-numbers s line);
+  joining-numbers = joining-numbers;
   closing-numbers = λ {b} {buffer} {after} {r} c. rw (closed-by c .0) (demand1 .closing-numbers b (length buffer));
   cells-numbers = λ {b} {cells} {buffer} {after} {r} c. rw (cells-by c .0) (demand1 .cells-numbers b cells (length buffer));
   refused-opening = λ {sheet} {line} {a} c n.
@@ -191,15 +250,11 @@ calls-loan-table = record {
       x y (cells-by c) (cells-by d) z w;
 }
 
--- the sheet, which every feeding leaves
-under-sheet : {h : History} {s : State} → Given h s → SheetRules (sheetOf h) × (s .rates ≡ ratesOf (sheetOf h))
-unfolding sheetOf
-under-sheet (by-opening sheet line a c e) =
-    let o = own-factors .opened sheet line (sym (ap (λ (x : Answer). x .refusal) (opened-by c)) ∙ e) in
-    (o .0, ap (λ (x : Answer). x .state .rates) (opened-by c) ∙ o .1)
-under-sheet (by-feeding {h} {s} g line a c) =
-    let (r, k) = under-sheet g in
-    (r, ap (λ (x : Answer). x .state .rates) (fed-by c) ∙ ap (λ (x : State). x .rates) (fed-state s line) ∙ k)
+-- the sheet, which every feeding and joining leaves
+pub under-sheet : {h : History} {s : State} → Given h s → SheetRules (sheetOf h) × (s .rates ≡ ratesOf (sheetOf h))
+under-sheet {h} g =
+    let (r, k) = sheet-of h (opens g) in
+    (r, ap (λ (x : State). x .rates) (given g) ∙ k)
 
 terms-given : {h : History} {s : State} → Given h s → termsOf h ≡ termsIn s
 terms-given g = sym (ap termsIn (given g))
@@ -239,11 +294,6 @@ calls-adjusted-values = record {
 -- the header of a state is the one its history was opened under
 header-given : {h : History} {s : State} → Given h s → termsOf h .header ≡ s .book .header
 header-given g = ap (λ (t : Terms). t .header) (terms-given g)
-
-opens : {h : History} {s : State} → Given h s → opening (sheetOf h) (headerLine h) .refusal ≡ 0
-unfolding sheetOf headerLine
-opens (by-opening sheet line a c e) = sym (ap (λ (x : Answer). x .refusal) (opened-by c)) ∙ e
-opens (by-feeding g line a c) = opens g
 
 met-given : {h : History} {s : State} → Given h s → {buffer after : List ℕ} {r : Closed} → CloseCall (s .book) buffer r after → r .refusal ≡ 0 →
     CountsMet (termsOf h .header) (countsIn (linesTaken h))
@@ -290,5 +340,6 @@ calls-asked = record {
   closing-cells = λ lifetimes args. tt;
   feeding = λ g lifetimes args e. subst Sound (sym e) (sound g);
   feeding-with = λ g lifetimes args e f. (subst Sound (sym e) (sound g), f);
+  joining = λ g f lifetimes args d e. (without-marks (subst Sound (sym d) (sound g)), without-marks (subst Sound (sym e) (sound f)));
   closing = λ g lifetimes args e. subst SoundBook (sym e) (sound g .book);
 }

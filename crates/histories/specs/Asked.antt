@@ -1,5 +1,5 @@
--- What the calls of book ask of a caller (`requires`), by what their contracts make a caller show (`Asked`): every state that the calls gave meets
--- it, whatever line, sheet or buffer is lent, so each call may follow each.
+-- What the calls of book and joining ask of a caller (`requires`), by what their contracts make a caller show (`Asked`): every state that the
+-- calls gave meets it, whatever line, sheet or buffer is lent, so each call may follow each.
 use mathlib.Core.Path.{_≡_}
 use contract.Lifetimes.{Lfts}
 use borrow.Fn.Kinds.{Dens}
@@ -19,6 +19,8 @@ use Rattle.book.proofs.close.Reads as close-reads
 use Rattle.book.proofs.close.Kinds as close-kinds
 use Rattle.book.proofs.close_cells.Reads as cells-reads
 use Rattle.book.proofs.close_cells.Kinds as cells-kinds
+use Rattle.joining.proofs.join.Reads as join-reads
+use Rattle.joining.proofs.join.Kinds as join-kinds
 use Rattle.histories.specs.Given.{Given}
 
 pub record CallsAsked : Type 0 where
@@ -32,6 +34,11 @@ pub record CallsAsked : Type 0 where
   pub feeding-with : {h : History} {s : State} → Given h s → (lifetimes : Lfts 6) (args : Dens lifetimes with-kinds.ps) →
       stateAt (args .0) (now (args .1 .1 .0)) (now (args .1 .1 .1 .0)) (now (args .1 .1 .1 .1 .0)) (now (args .1 .1 .1 .1 .1 .0)) ≡ s →
       now (args .1 .0) ≡ exponentials → with-reads.Asked lifetimes args
+  -- A joining is handed two such states, all their tables but the marks lent.
+  pub joining : {h k : History} {s u : State} → Given h s → Given k u → (lifetimes : Lfts 10) (args : Dens lifetimes join-kinds.ps) →
+      stateAt (args .0) (now (args .1 .0)) (now (args .1 .1 .0)) (now (args .1 .1 .1 .0)) (s .marks) ≡ s →
+      stateAt (args .1 .1 .1 .1 .0) (now (args .1 .1 .1 .1 .1 .0)) (now (args .1 .1 .1 .1 .1 .1 .0)) (now (args .1 .1 .1 .1 .1 .1 .1 .0)) (u .marks) ≡ u →
+      join-reads.Asked lifetimes args
   -- A closing is handed the book of such a state.
   pub closing : {h : History} {s : State} → Given h s → (lifetimes : Lfts 1) (args : Dens lifetimes close-kinds.ps) → args .0 ≡ s .book →
       close-reads.Asked lifetimes args

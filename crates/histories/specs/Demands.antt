@@ -1,5 +1,5 @@
--- Demands 1 to 3 of the calls `open`, `open_sheet`, `feed`, `feed_with`, `close` and `close_cells` themselves, and requests L1 and L3 to L7.
--- Proved in proofs/Demands.antt.
+-- Demands 1 to 3 of the calls `open`, `open_sheet`, `feed`, `feed_with`, `join`, `close` and `close_cells` themselves, and requests L1 and
+-- L3 to L7; L8 is in Joinings.antt. Proved in proofs/Demands.antt.
 use mathlib.Core.Path.{_≡_}
 use mathlib.Core.List.{List, [], _∷_, _++_, List·Memᴰ, List·Permᴰ}
 use mathlib.Core.Logic.{_↔_}
@@ -27,7 +27,7 @@ use Rattle.book_model.specs.LoanTable.{cellFor, cellsFor, CellSums}
 use Rattle.book_model.specs.Marks.{namesIn}
 use Rattle.book_model.specs.Standing.{Marks, Returns, SameBook, standingAlone}
 use Rattle.book_model.specs.Terms.{underSheet, factorFor}
-use Rattle.histories.specs.Given.{OpenCall, OpenSheetCall, OpeningCall, FeedingCall, CloseCall, CellsCall, Given}
+use Rattle.histories.specs.Given.{OpenCall, OpenSheetCall, OpeningCall, FeedingCall, CloseCall, CellsCall, JoinCall, Given}
 
 -- Demand 1. That every call comes to an end is part of what it means that it is proved.
 pub record CallsDemand1 : Type 0 where
@@ -35,10 +35,11 @@ pub record CallsDemand1 : Type 0 where
   pub opening-numbers : {sheet line : List ℕ} {a : Answer} → OpeningCall sheet line a → List·Memᴰ (a .refusal) (0 ∷ 1 ∷ 2 ∷ 7 ∷ 3 ∷ 4 ∷ 10 ∷ [])
   pub feeding-numbers : {s : State} {line : List ℕ} {a : Answer} → FeedingCall s line a →
       List·Memᴰ (a .refusal) (0 ∷ 1 ∷ 2 ∷ 7 ∷ 3 ∷ 5 ∷ 12 ∷ 8 ∷ 11 ∷ 13 ∷ 14 ∷ 15 ∷ [])
+  pub joining-numbers : {s u : State} {a : Answer} → JoinCall s u a → List·Memᴰ (a .refusal) (0 ∷ 16 ∷ [])
   pub closing-numbers : {b : Book} {buffer after : List ℕ} {r : Closed} → CloseCall b buffer r after → List·Memᴰ (r .refusal) (0 ∷ 6 ∷ 9 ∷ [])
   pub cells-numbers : {b : Book} {cells buffer after : List ℕ} {r : Closed} → CellsCall b cells buffer r after → List·Memᴰ (r .refusal) (0 ∷ 6 ∷ 9 ∷ [])
   -- Refused, an opening gives the value of an all-zero header under the regulator's table, a feeding the same state, every place of its
-  -- tables included, and a closing leaves every byte.
+  -- tables included, and a closing leaves every byte. What a joining gives then is in CallsJoining.
   pub refused-opening : {sheet line : List ℕ} {a : Answer} → OpeningCall sheet line a → (a .refusal ≡ 0 → ⊥) → a .state ≡ refusedState
   pub refused-feeding : {s : State} {line : List ℕ} {a : Answer} → FeedingCall s line a → (a .refusal ≡ 0 → ⊥) → a .state ≡ s
   pub refused-closing : {b : Book} {buffer after : List ℕ} {r : Closed} → CloseCall b buffer r after → (r .refusal ≡ 0 → ⊥) → after ≡ buffer

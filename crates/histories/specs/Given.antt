@@ -10,9 +10,11 @@ use Rattle.loan_charge.specs.CreditFactor.{builtInSheet}
 use Rattle.book_model.specs.declared.Book.{Book}
 use Rattle.book_model.specs.declared.Closed.{Closed}
 use Rattle.book_model.specs.declared.Fed.{Fed}
+use Rattle.book_model.specs.declared.Joined.{Joined}
 use Rattle.book_model.specs.declared.Opened.{Opened}
 use Rattle.book_model.specs.Calls.{State, Answer, stateAt}
 use Rattle.book_model.specs.History.{History, opened, fed}
+use Rattle.book_model.specs.Joining.{joined}
 use Rattle.book.proofs.open.Reads as open-reads
 use Rattle.book.proofs.open.Kinds as open-kinds
 use Rattle.book.proofs.open_sheet.Reads as sheet-reads
@@ -25,6 +27,8 @@ use Rattle.book.proofs.close.Reads as close-reads
 use Rattle.book.proofs.close.Kinds as close-kinds
 use Rattle.book.proofs.close_cells.Reads as cells-reads
 use Rattle.book.proofs.close_cells.Kinds as cells-kinds
+use Rattle.joining.proofs.join.Reads as join-reads
+use Rattle.joining.proofs.join.Kinds as join-kinds
 
 -- `open` was called with this line and gave this answer: the refusal and the book by value, the tables of rates, cells, index values and
 -- marks as it left them
@@ -113,8 +117,26 @@ pub record CellsCall (b : Book) (cells buffer : List ℕ) (r : Closed) (after : 
   pub lent : now (args .1 .1 .0) ≡ buffer
   pub left : now (exit .1 .1 .0) ≡ after
 
+-- `join` was handed these two states, all their tables but the marks lent, and left four tables with its answer (02, L8)
+pub record JoinCall (s u : State) (a : Answer) : Type 0 where
+  pub lifetimes : Lfts 10
+  pub args : Dens lifetimes join-kinds.ps
+  pub result : Joined
+  pub exit : AtExit (endedOf 10 join-kinds.ps join-kinds.r) lifetimes
+  pub learnt : join-reads.Learnt lifetimes args result exit
+  pub first : stateAt (args .0) (now (args .1 .0)) (now (args .1 .1 .0)) (now (args .1 .1 .1 .0)) (s .marks) ≡ s
+  pub second : stateAt (args .1 .1 .1 .1 .0) (now (args .1 .1 .1 .1 .1 .0)) (now (args .1 .1 .1 .1 .1 .1 .0)) (now (args .1 .1 .1 .1 .1 .1 .1 .0))
+      (u .marks) ≡ u
+  pub gave : record {
+    refusal = result .refusal;
+    state = stateAt (result .book) (now (exit .1 .1 .1 .1 .1 .1 .1 .1 .0)) (now (exit .1 .1 .1 .1 .1 .1 .1 .1 .1 .0))
+        (now (exit .1 .1 .1 .1 .1 .1 .1 .1 .1 .1 .0)) (now (exit .1 .1 .1 .1 .1 .1 .1 .1 .1 .1 .1 .0));
+  } ≡ a
+
 -- The calls of a history gave this state: an opening that was not refused, and feedings, each handed what the call before gave back, its
--- tables as that call left them.
+-- tables as that call left them; or a joining that was not refused of two states that calls gave. The latter counts as one book that opening
+-- and feeding give, with the lines still standing in both taken (02, L8): that history, which no call went through, is `joined h k`.
 pub data Given : History → State → Type 0 where
   by-opening : (sheet line : List ℕ) (a : Answer) → OpeningCall sheet line a → a .refusal ≡ 0 → Given (opened sheet line) (a .state)
   by-feeding : {h : History} {s : State} → Given h s → (line : List ℕ) (a : Answer) → FeedingCall s line a → Given (fed h line) (a .state)
+  by-joining : {h k : History} {s u : State} → Given h s → Given k u → (a : Answer) → JoinCall s u a → a .refusal ≡ 0 → Given (joined h k) (a .state)

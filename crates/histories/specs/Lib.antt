@@ -1,3 +1,4 @@
 pub mod Given
 pub mod Demands
+pub mod Joinings
 pub mod Asked

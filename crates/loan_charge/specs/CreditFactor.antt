@@ -55,6 +55,10 @@ builtInSheet =
 abbrev pub ratesOf : List ℕ → List ℕ
 ratesOf sheet = map hundredths sheet
 
+-- how many a book is charged by: one for each band and age
+abbrev pub ratePlaces : ℕ
+ratePlaces = 66
+
 abbrev pub builtInRates : List ℕ
 builtInRates = ratesOf builtInSheet
 

@@ -22,17 +22,22 @@ use Rattle.book_model.proofs.OwnFactors.{own-factors}
 use Rattle.book_model.proofs.AdjustedValues.{adjusted-values}
 use Rattle.book_model.proofs.FreshScores.{fresh-scores}
 use Rattle.book_model.proofs.Standing.{standing}
+use Rattle.book_model.proofs.Joining.{joining-holds}
+use Rattle.book_model.proofs.JoiningExamples.{joining-examples}
 use Rattle.book_model.proofs.LineNumbers.{line-numbers}
 use Rattle.book_model.proofs.Examples.{twelve}
 use Rattle.histories.proofs.Demands.{calls-demand1, calls-demand2, calls-demand3, calls-loan-table, calls-own-factors, calls-adjusted-values}
 use Rattle.histories.proofs.Demands.{calls-fresh-scores, calls-standing, calls-asked}
+use Rattle.histories.proofs.Joinings.{calls-joining}
 use Rattle.driver.proofs.InputLines.{input-lines}
 use Rattle.driver.proofs.Program as Driver
+use Rattle.regions.proofs.Regions as Regions
 use Rattle.promises.specs.Promises.{Promises}
 
 pub promises : Promises
 promises = record {
   program = Driver.program;
+  regions = Regions.regions;
   calls = record {
     demand1 = calls-demand1;
     demand2 = calls-demand2;
@@ -42,6 +47,7 @@ promises = record {
     adjusted-values = calls-adjusted-values;
     fresh-scores = calls-fresh-scores;
     standing = calls-standing;
+    joining = calls-joining;
     asked = calls-asked;
   };
   definitions = record {
@@ -53,6 +59,7 @@ promises = record {
     adjusted-values = adjusted-values;
     fresh-scores = fresh-scores;
     standing = standing;
+    joining = joining-holds;
     line-numbers = line-numbers;
   };
   layers = record {
@@ -78,5 +85,6 @@ promises = record {
     refusal = refusal-text;
     reports = report-texts;
     cells = cell-texts;
+    joining = joining-examples;
   };
 }

@@ -26,15 +26,19 @@ use Rattle.book_model.specs.OwnFactors.{OwnFactors}
 use Rattle.book_model.specs.AdjustedValues.{AdjustedValues}
 use Rattle.book_model.specs.FreshScores.{FreshScores}
 use Rattle.book_model.specs.Standing.{Standing}
+use Rattle.book_model.specs.Joining.{Joining}
+use Rattle.book_model.specs.JoiningExamples.{JoiningExamples}
 use Rattle.book_model.specs.LineNumbers.{LineNumbers}
 use Rattle.book_model.specs.Examples.{TwelveExamples}
 use Rattle.histories.specs.Demands.{CallsDemand1, CallsDemand2, CallsDemand3, CallsLoanTable, CallsOwnFactors, CallsAdjustedValues}
 use Rattle.histories.specs.Demands.{CallsFreshScores, CallsStanding}
+use Rattle.histories.specs.Joinings.{CallsJoining}
 use Rattle.histories.specs.Asked.{CallsAsked}
 use Rattle.driver.specs.InputLines.{InputLines}
 use Rattle.driver.specs.Program.{Program}
+use Rattle.regions.specs.Regions.{Regions}
 
--- of the calls open, open_sheet, feed, feed_with, close and close_cells, each known by its contract alone
+-- of the calls open, open_sheet, feed, feed_with, join, close and close_cells, each known by its contract alone
 pub record Calls : Type 0 where
   -- 00, 1: a line is taken or turned down by a numbered refusal; a refused line changes nothing, a refused closing writes nothing
   pub demand1 : CallsDemand1
@@ -53,10 +57,12 @@ pub record Calls : Type 0 where
   pub fresh-scores : CallsFreshScores
   -- 02, L6: marks, returns, and the lines still standing
   pub standing : CallsStanding
+  -- 02, L8: two books joined, as one book fed the lines still standing in both, or 16
+  pub joining : CallsJoining
   -- what a call asks is met by every state that the calls gave, so that each may follow each
   pub asked : CallsAsked
 
--- of opening, feeding and both closings as definitions: what the calls' claims rest on, and what only definitions can say
+-- of opening, feeding, joining and both closings as definitions: what the calls' claims rest on, and what only definitions can say
 pub record Definitions : Type 0 where
   pub demand1 : Demand1
   -- also which lines count as loans, as unscored, as fresh and as other lines, by their bytes
@@ -70,6 +76,7 @@ pub record Definitions : Type 0 where
   pub adjusted-values : AdjustedValues
   pub fresh-scores : FreshScores
   pub standing : Standing
+  pub joining : Joining
   -- equity, aoci, b and c by their lines; what a loan is charged by
   pub line-numbers : LineNumbers
 
@@ -113,10 +120,14 @@ pub record Examples : Type 0 where
   pub refusal : RefusalText
   pub reports : ReportTexts
   pub cells : CellTexts
+  -- 02, L8: what is added, each condition at its limit and beyond, 01's worked report joined with itself
+  pub joining : JoiningExamples
 
 pub record Promises : Type 0 where
   -- what is printed of every input under every sheet
   pub program : Program
+  -- 02, L8: what is printed of files that are books, joined from the first on
+  pub regions : Regions
   pub calls : Calls
   pub definitions : Definitions
   pub layers : Layers

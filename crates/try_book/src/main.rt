@@ -1,10 +1,13 @@
 // Makes the calls of standard input and prints what each answers. Each line is a call on the book that the last one gave back:
 // `o` and a header line opens a book, `n` and a list of numbers makes them the sheet of factors under which `s` and a header line opens
 // one, `f` and a line feeds it, `c` and a number closes it into so many bytes of a buffer of 640, `t` and a number closes its table of
-// cells into so many of a buffer of 8,320. A closing prints the whole buffer, in which every byte was `.` before.
+// cells into so many of a buffer of 8,320. A closing prints the whole buffer, in which every byte was `.` before. `k` keeps a copy of the
+// book, that of a refused opening at first, and answers nothing; `j` joins the copy kept and the book, which becomes what joining gave.
+ghost use mathlib.Core.Path.{_≡_};
 ghost use Prim.Native.Nat.{_≤_, _<_};
 ghost use lib.ListN.{length};
 ghost use Rattle.book_model.specs.Calls.{stateAt, SoundBook, Sound};
+ghost use Rattle.book_model.specs.Marks.{noMarks};
 use book_model::Book;
 use book_model::Closed;
 use cell_report::Cells;
@@ -178,9 +181,123 @@ fn call_book(
     b
 }
 
-// The book after a call, and where in the input the numbers of the sheet stand.
-struct Held {
+// Copies the tables of the book to those of the copy.
+fn keep(
+    rates: &Rates,
+    cells: &Cells,
+    index: &Index,
+    kept_rates: &mut Rates,
+    kept_cells: &mut Cells,
+    kept_index: &mut Index,
+)
+    ensures { λ _. ⌜ (now («kept_rates» .exit) ≡ now (rates .entry)) × (now («kept_cells» .exit) ≡ now (cells .entry))
+        × (now («kept_index» .exit) ≡ now (index .entry)) ⌝ }
+{
+    let factors = *rates;
+    *kept_rates = factors;
+    let sums = *cells;
+    *kept_cells = sums;
+    let values = *index;
+    *kept_index = values;
+}
+
+// Joins the copy kept and the book, whose tables become those of what joining gave. They are made in a set of their own, of ones before, so that
+// what is not written shows.
+fn join(
+    kept: Book,
+    kept_rates: &Rates,
+    kept_cells: &Cells,
+    kept_index: &Index,
     b: Book,
+    rates: &mut Rates,
+    cells: &mut Cells,
+    index: &mut Index,
+    marks: &mut Marks,
+) -> Book
+    requires { ⌜ Sound (stateAt kept (now «kept_rates») (now «kept_cells») (now «kept_index») noMarks)
+        × Sound (stateAt b (now rates) (now cells) (now index) (now marks)) ⌝ }
+    ensures { λ r. ⌜ Sound (stateAt r (now (rates .exit)) (now (cells .exit)) (now (index .exit)) (now (marks .exit))) ⌝ }
+{
+    let mut new_rates = [1u64; loan_charge::credit::RATES];
+    let mut new_cells = [1u64; cell_report::PLACES];
+    let mut new_index = [1u64; house_index::PLACES];
+    let joined = joining::join(
+        kept,
+        kept_rates,
+        kept_cells,
+        kept_index,
+        b,
+        rates,
+        cells,
+        index,
+        &mut new_rates,
+        &mut new_cells,
+        &mut new_index,
+        marks,
+    );
+    *rates = new_rates;
+    *cells = new_cells;
+    *index = new_index;
+    print_answer(b"j ", joined.refusal);
+    io::write_all(1, b"\n");
+    joined.book
+}
+
+// The book and the copy of one that is kept.
+struct Books {
+    b: Book,
+    kept: Book,
+}
+
+// One call on the book or on the copy kept; `numbers` are the sheet's.
+fn call_books(
+    books: Books,
+    numbers: &[u8],
+    kept_rates: &mut Rates,
+    kept_cells: &mut Cells,
+    kept_index: &mut Index,
+    rates: &mut Rates,
+    cells: &mut Cells,
+    index: &mut Index,
+    marks: &mut Marks,
+    kind: u8,
+    rest: &[u8],
+) -> Books
+    requires { ⌜ Sound (stateAt (books .kept) (now «kept_rates») (now «kept_cells») (now «kept_index») noMarks)
+        × Sound (stateAt (books .b) (now rates) (now cells) (now index) (now marks)) ⌝ }
+    ensures { λ r. ⌜ Sound (stateAt (r .kept) (now («kept_rates» .exit)) (now («kept_cells» .exit)) (now («kept_index» .exit)) noMarks)
+        × Sound (stateAt (r .b) (now (rates .exit)) (now (cells .exit)) (now (index .exit)) (now (marks .exit))) ⌝ }
+{
+    let before = books.b;
+    let kept = books.kept;
+    if kind == b'k' {
+        keep(rates, cells, index, kept_rates, kept_cells, kept_index);
+        return Books {
+            b: before,
+            kept: before,
+        };
+    }
+    if kind == b'j' {
+        let joined = join(
+            kept,
+            kept_rates,
+            kept_cells,
+            kept_index,
+            before,
+            rates,
+            cells,
+            index,
+            marks,
+        );
+        return Books { b: joined, kept };
+    }
+    let b = call_book(before, numbers, rates, cells, index, marks, kind, rest);
+    Books { b, kept }
+}
+
+// The books after a call, and where in the input the numbers of the sheet stand.
+struct Held {
+    books: Books,
     from: usize,
     to: usize,
 }
@@ -188,6 +305,9 @@ struct Held {
 // The call of the line that stands there; an empty line is none.
 fn call(
     held: Held,
+    kept_rates: &mut Rates,
+    kept_cells: &mut Cells,
+    kept_index: &mut Index,
     rates: &mut Rates,
     cells: &mut Cells,
     index: &mut Index,
@@ -196,10 +316,12 @@ fn call(
     at: usize,
     end: usize,
 ) -> Held
-    requires { ⌜ Sound (stateAt (held .b) (now rates) (now cells) (now index) (now marks)) × (held .from ≤ held .to) × (held .to ≤ length (now s)) × (at ≤ end)
-        × (end ≤ length (now s)) ⌝ }
-    ensures { λ r. ⌜ Sound (stateAt (r .b) (now (rates .exit)) (now (cells .exit)) (now (index .exit)) (now (marks .exit))) × (r .from ≤ r .to) ×
-        (r .to ≤ length (now (s .entry))) ⌝ }
+    requires { ⌜ Sound (stateAt (held .books .kept) (now «kept_rates») (now «kept_cells») (now «kept_index») noMarks)
+        × Sound (stateAt (held .books .b) (now rates) (now cells) (now index) (now marks))
+        × (held .from ≤ held .to) × (held .to ≤ length (now s)) × (at ≤ end) × (end ≤ length (now s)) ⌝ }
+    ensures { λ r. ⌜ Sound (stateAt (r .books .kept) (now («kept_rates» .exit)) (now («kept_cells» .exit)) (now («kept_index» .exit)) noMarks)
+        × Sound (stateAt (r .books .b) (now (rates .exit)) (now (cells .exit)) (now (index .exit)) (now (marks .exit)))
+        × (r .from ≤ r .to) × (r .to ≤ length (now (s .entry))) ⌝ }
 {
     if end <= at {
         return held;
@@ -208,18 +330,21 @@ fn call(
     let rest = at + 1;
     let from = held.from;
     let to = held.to;
-    let before = held.b;
+    let before = held.books;
     if kind == b'n' {
         tell_numbers(&s[rest..end]);
         return Held {
-            b: before,
+            books: before,
             from: rest,
             to: end,
         };
     }
-    let b = call_book(
+    let books = call_books(
         before,
         &s[from..to],
+        kept_rates,
+        kept_cells,
+        kept_index,
         rates,
         cells,
         index,
@@ -227,7 +352,7 @@ fn call(
         kind,
         &s[rest..end],
     );
-    Held { b, from, to }
+    Held { books, from, to }
 }
 
 // What a call left, and where the next line begins.
@@ -238,6 +363,9 @@ struct Turn {
 
 fn call_at(
     held: Held,
+    kept_rates: &mut Rates,
+    kept_cells: &mut Cells,
+    kept_index: &mut Index,
     rates: &mut Rates,
     cells: &mut Cells,
     index: &mut Index,
@@ -245,28 +373,59 @@ fn call_at(
     s: &[u8],
     at: usize,
 ) -> Turn
-    requires { ⌜ Sound (stateAt (held .b) (now rates) (now cells) (now index) (now marks)) × (held .from ≤ held .to) × (held .to ≤ length (now s)) ×
-        (at < length (now s)) ⌝ }
-    ensures { λ r. ⌜ Sound (stateAt (r .held .b) (now (rates .exit)) (now (cells .exit)) (now (index .exit)) (now (marks .exit))) ×
-        (r .held .from ≤ r .held .to)
-        × (r .held .to ≤ length (now (s .entry))) × (at < r .at) ⌝ }
+    requires { ⌜ Sound (stateAt (held .books .kept) (now «kept_rates») (now «kept_cells») (now «kept_index») noMarks)
+        × Sound (stateAt (held .books .b) (now rates) (now cells) (now index) (now marks))
+        × (held .from ≤ held .to) × (held .to ≤ length (now s)) × (at < length (now s)) ⌝ }
+    ensures { λ r. ⌜ Sound (stateAt (r .held .books .kept) (now («kept_rates» .exit)) (now («kept_cells» .exit)) (now («kept_index» .exit)) noMarks)
+        × Sound (stateAt (r .held .books .b) (now (rates .exit)) (now (cells .exit)) (now (index .exit)) (now (marks .exit)))
+        × (r .held .from ≤ r .held .to) × (r .held .to ≤ length (now (s .entry))) × (at < r .at) ⌝ }
 {
     let end = bytes::scan::find(s, at, s.len(), b'\n');
-    let next = call(held, rates, cells, index, marks, s, at, end);
+    let next = call(
+        held,
+        kept_rates,
+        kept_cells,
+        kept_index,
+        rates,
+        cells,
+        index,
+        marks,
+        s,
+        at,
+        end,
+    );
     Turn {
         held: next,
         at: end + 1,
     }
 }
 
-// The calls of the input, on the book of a refused opening and with an empty sheet at first.
+// The calls of the input, on the book of a refused opening, with a copy of it kept and an empty sheet at first.
 fn call_all(s: &[u8], rates: &mut Rates, cells: &mut Cells, index: &mut Index, marks: &mut Marks) {
     let opened = book::open(b"", rates, cells, index, marks);
     let b = opened.book;
-    let mut held = Held { b, from: 0, to: 0 };
+    let mut kept_rates = *rates;
+    let mut kept_cells = *cells;
+    let mut kept_index = *index;
+    let mut held = Held {
+        books: Books { b, kept: b },
+        from: 0,
+        to: 0,
+    };
     let mut at = 0;
     while at < s.len() {
-        let turn = call_at(held, rates, cells, index, marks, s, at);
+        let turn = call_at(
+            held,
+            &mut kept_rates,
+            &mut kept_cells,
+            &mut kept_index,
+            rates,
+            cells,
+            index,
+            marks,
+            s,
+            at,
+        );
         held = turn.held;
         at = turn.at;
     }

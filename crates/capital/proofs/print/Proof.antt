@@ -2,14 +2,14 @@
 use Prim.Native.Nat.{_≤_}
 use lib.ListN.{length}
 use borrow.Author.Needs.{needs}
-use Rattle.driver.proofs.Runs.{written-within}
+use Rattle.capital.proofs.Files.{words-within}
 use Rattle.capital.proofs.print.Statement.{statement}
 use Rattle.capital.proofs.print.Tie as tie
 
 part-write-all-end : tie.Need-part-write-all-end
 part-write-all-end c =
-    let a = c .before .before .before .answer in
-    let h : a .result .count ≤ length (a .last .1 .1 .0) = written-within (a .ensures .prints (c .before .if1 .left) .1) in
+    let a = c .before .before .before .answer-words in
+    let h : a .result .count ≤ length (a .last .1 .1 .1 .0) = words-within (a .ensures) (c .before .if1 .left) in
     search needs
 
 pub print-spec : {M : Type 1} → statement M
@@ -20,6 +20,9 @@ print-spec =
     (λ c κs. search needs)
     (λ c. search needs)
     (λ c κs. search needs)
+    (λ c. search needs)
+    (λ c κs. search needs)
+    (λ c. search needs)
     (λ c. search needs)
     (λ c. search needs)
     (λ c. search needs)

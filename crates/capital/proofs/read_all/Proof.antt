@@ -14,13 +14,13 @@ use Rattle.capital.proofs.read_all.Statement.{statement}
 use Rattle.capital.proofs.read_all.Tie as tie
 
 abbrev Inv-loop : tie.InvT-loop
-Inv-loop exps sheet rates₀ cells₀ index₀ marks₀ buf₀ run₀ turns₀ rates cells index marks buf run turns =
+Inv-loop fd exps sheet rates₀ cells₀ index₀ marks₀ buf₀ run₀ turns₀ rates cells index marks buf run turns =
     Running run rates cells index marks × Reached sheet (readingOf run sheet rates cells index marks) (run .read) × (run .read + 65536 * turns ≤ 2 ^ 60) ×
     (exps ≡ exponentials)
     × (length buf ≡ 65536)
 
 abbrev μ-loop : tie.MeasureT-loop
-μ-loop exps sheet rates₀ cells₀ index₀ marks₀ buf₀ run₀ turns₀ rates cells index marks buf run turns = turns
+μ-loop fd exps sheet rates₀ cells₀ index₀ marks₀ buf₀ run₀ turns₀ rates cells index marks buf run turns = turns
 
 loop-holds : tie.Need-loop-holds Inv-loop μ-loop
 loop-holds c =
@@ -56,8 +56,8 @@ loop-again : tie.Need-loop-again Inv-loop μ-loop
 loop-again c =
     let l = c .before .before .before .before .before .before .before .before .before .before .before .before .loop in
     let r = c .before .before .before .before .before .read-once in
-    let n : length (r .last .1 .1 .1 .1 .1 .1 .1 .0) ≡ 65536 = c .before .before .before .before .buf .given ∙ l .inv .4 in
-    let few : r .result .count ≤ length (r .last .1 .1 .1 .1 .1 .1 .1 .0) = r .ensures .0 .count in
+    let n : length (r .last .1 .1 .1 .1 .1 .1 .1 .1 .0) ≡ 65536 = c .before .before .before .before .buf .given ∙ l .inv .4 in
+    let few : r .result .count ≤ length (r .last .1 .1 .1 .1 .1 .1 .1 .1 .0) = r .ensures .0 .count in
     let on : r .result .run .read ≡ l .run .read + r .result .count = r .ensures .1 .0 .1 in
     let left : r .result .run .read + 65536 * (l .turns - 1) ≤ 2 ^ 60 = omega
     (arith, on, few, n, l .inv .2, c .before .before .before .before .before .before .before .before .before .before .before .loop-test .taken) in (

@@ -1,11 +1,11 @@
 -- `read_word` meets its contract. Assumes nothing.
 use borrow.Author.Needs.{needs}
-use Rattle.capital.proofs.CommandWords.{few-more}
+use Rattle.capital.proofs.CommandWords.{keeps}
 use Rattle.capital.proofs.read_word.Statement.{statement}
 use Rattle.capital.proofs.read_word.Tie as tie
 
 returns-2 : tie.Need-returns-2
-returns-2 c = rw (c .understood .ensures) (few-more _ _ _)
+returns-2 c = rw (c .understood .ensures) (keeps _ _ _ (c .before .before .before .before .before .before .before .pre .1))
 
 pub read-word-spec : {M : Type 1} → statement M
 read-word-spec =

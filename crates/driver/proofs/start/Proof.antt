@@ -4,7 +4,7 @@ use mathlib.Core.Path.{_≡_, refl, sym, subst}
 use native.Mathlib.Omega.{arith}
 use borrow.Author.Needs.{needs}
 use Rattle.book_model.specs.Calls.{State, stateAt, emptyState, Sound}
-use Rattle.book_model.specs.Terms.{zeroHeader, refusedTerms}
+use Rattle.book_model.specs.Terms.{refusedTerms}
 use Rattle.book_model.proofs.Feeding.{refused-sound}
 use Rattle.line_bytes.specs.LineBytes.{unbroken}
 use Rattle.driver.proofs.start.Statement.{statement}
@@ -17,10 +17,8 @@ returns c =
     let cells = c .before .before .before .before .before .before .clear in
     let index = c .before .before .before .before .clear2 in
     let marks = c .before .before .clear3 in
-    let s : emptyState refusedTerms ≡ stateAt (record { header = zeroHeader; sums = c .before .none .result; indexed = 0 }) (rates .result)
-    (cells .last .0) (index .last .0) (marks .last .0) =
-    λ i. stateAt (record { header = zeroHeader; sums = sym (c .before .none .ensures) i; indexed = 0 }) (sym (rates .ensures) i)
-    (sym (cells .ensures) i) (sym (index .ensures) i) (sym (marks .ensures) i) in (
+    let s : emptyState refusedTerms ≡ stateAt (c .before .refused .result) (rates .result) (cells .last .0) (index .last .0) (marks .last .0) =
+    λ i. stateAt (sym (c .before .refused .ensures) i) (sym (rates .ensures) i) (sym (cells .ensures) i) (sym (index .ensures) i) (sym (marks .ensures) i) in (
       λ sheet i. record { stage = record { refusal = 0; number = 1; sheet = sheet; state = sym s i }; tail = [] },
       (
         record {

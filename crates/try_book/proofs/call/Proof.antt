@@ -1,11 +1,12 @@
 -- `call` meets its contract.
-use native.Mathlib.Omega.{arith}
 use borrow.Author.Needs.{needs}
 use Rattle.try_book.proofs.call.Statement.{statement}
 use Rattle.try_book.proofs.call.Tie as tie
 
-returns-2 : tie.Need-returns-2
-returns-2 c = let start = c .before .before .before .before .before .before .before in (start .pre .0, omega arith, omega (arith, start .pre .4))
+returns-3 : tie.Need-returns-3
+returns-3 c =
+    let start = c .before .before .before .before .before .before .before .before .before .before .before .before .before .before .before in
+    (c .call-books .ensures .0, c .call-books .ensures .1, start .pre .2, start .pre .3)
 
 pub call-spec : {M : Type 1} → statement M
 call-spec =
@@ -18,7 +19,7 @@ call-spec =
     (λ c. search needs)
     (λ c. search needs)
     (λ c κs. search needs)
-    returns-2
+    (λ c. search needs)
     (λ c. search needs)
     (λ c. search needs)
     (λ c. search needs)
@@ -26,4 +27,4 @@ call-spec =
     (λ c. search needs)
     (λ c. search needs)
     (λ c κs. search needs)
-    (λ c. search needs))
+    returns-3)

@@ -1,7 +1,8 @@
+-- `empty` meets its contract.
 use mathlib.Core.Path.{refl}
 use borrow.Author.Needs.{needs}
-use Rattle.book.proofs.empty.Statement.{statement}
-use Rattle.book.proofs.empty.Tie as tie
+use Rattle.book_model.proofs.empty.Statement.{statement}
+use Rattle.book_model.proofs.empty.Tie as tie
 
 returns : tie.Need-returns
 returns c = rw (c .none .ensures) refl
