@@ -133,11 +133,11 @@ unfoldable pub otherLines : List (List ℕ) → List (List ℕ)
 otherLines [] = []
 otherLines (s ∷ kept) = pick (isIndexLine s) (otherLines kept) (s ∷ otherLines kept)
 
--- the header line of the one book, and its sheet
+-- the header line of the one book
 abbrev pub addedHeaderLine : History → History → List ℕ
 addedHeaderLine h k = bytesOf (header (addedHeader (termsOf h .header) (termsOf k .header)))
 
--- one book with the added header, fed lines
+-- one book with the added header, under the sheet of the first, fed lines
 abbrev pub oneBook : History → History → (lines : List (List ℕ)) → History
 oneBook h k lines = allFed (opened (sheetOf h) (addedHeaderLine h k)) lines
 

@@ -54,6 +54,18 @@ reported asked p e =
     let (zero, n, few) = parts p e in
     rw (eq-eqb (p .refusal) 0 zero, ne-eqb (p .number) 1 n, few) refl
 
+pub refused-alone : (asked : Bool) (p : Stage) → reports p ≡ false → (n : ℕ) × (l : ℕ) × (printedFor asked p ≡ refusalLine n l)
+unfolding reports printedWith printedAtEnd
+refused-alone asked p e = go (eqb (p .refusal) 0) (eqb (p .number) 1) (tooFew (p .state .book .header) (p .state .book .sums .counts)) e
+  where
+    go : (a b c : Bool) → pick a (pick b false (pick c false true)) false ≡ false →
+        (n : ℕ) × (l : ℕ) × (pick a (pick b (refusalLine 2 1) (pick c (refusalLine 6 (p .number)) (printedState asked (p .state))))
+        (refusalLine (p .refusal) (p .number)) ≡ refusalLine n l)
+    go false b c e = (p .refusal, p .number, refl)
+    go true true c e = (2, 1, refl)
+    go true false true e = (6, p .number, refl)
+    go true false false e = absurd (true≢false e)
+
 -- the first file
 module _ (asked : Bool) (sheet input : List ℕ) (inputs : List (List ℕ)) where
   pub first-joined : reports (regionOf sheet input) ≡ true → printedRegions asked sheet input inputs ≡ joinedFrom asked sheet (regionOf sheet input .state) 2 inputs

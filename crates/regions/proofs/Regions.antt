@@ -33,7 +33,7 @@ use Rattle.driver.proofs.Law.{withLines, bytes-lines, whole}
 use Rattle.driver.proofs.LineLaws.{line-refused, line-opens, line-fed as line-read}
 use Rattle.regions.specs.Regions.{regionOf, reports, printedState, goesOn, joinedFrom, printedRegions, ReachesCounts, RegionHistory, FilesOutcome, all-joined}
 use Rattle.regions.specs.Regions.{no-report, not-joined, joins, Regions}
-use Rattle.regions.proofs.NextFile.{Enough, parts, reported, joined-enough, both-go, one-joined, stops-16, stops-alone, first-joined, first-stops}
+use Rattle.regions.proofs.NextFile.{Enough, parts, reported, refused-alone, joined-enough, both-go, one-joined, stops-16, stops-alone, first-joined, first-stops}
 
 -- no count of a book is short: by its lines
 enough-test : (h : History) → Enough (stateGiven h) ↔ ReachesCounts h
@@ -255,6 +255,9 @@ pub regions : Regions
 regions = record {
   one = one;
   first-refused = λ asked sheet input inputs e. first-stops asked sheet input inputs e ∙ whole asked sheet input;
+  refusal = λ asked sheet input e.
+      let (n, l, f) = refused-alone asked (regionOf sheet input) e in
+      (n, l, sym (whole asked sheet input) ∙ f);
   files = files;
   second = second;
   third = third;

@@ -85,6 +85,9 @@ pub record Regions : Type 0 where
   pub one : (asked : Bool) (sheet input : List ℕ) → printedRegions asked sheet input [] ≡ printed asked sheet input
   pub first-refused : (asked : Bool) (sheet input : List ℕ) (inputs : List (List ℕ)) → reports (regionOf sheet input) ≡ false →
       printedRegions asked sheet input inputs ≡ printed asked sheet input
+  -- Such a file prints a refusal alone: of every other a report is printed.
+  pub refusal : (asked : Bool) (sheet input : List ℕ) → reports (regionOf sheet input) ≡ false →
+      (n : ℕ) × (l : ℕ) × (printed asked sheet input ≡ refusalLine n l)
   -- Else the first file's book is joined with the others in turn.
   pub files : (asked : Bool) (sheet input : List ℕ) (inputs : List (List ℕ)) → reports (regionOf sheet input) ≡ true →
       (h : History) × RegionHistory sheet input h × FilesOutcome asked sheet h 2 inputs (printedRegions asked sheet input inputs)
