@@ -5,13 +5,13 @@ A call is one line: `o` and a header line, `f` and a line (a mark or a return to
 the table. Its answer is its letter and the refusal, 0 for none; a closing tells the length too, and then all bytes of the buffer
 of which the lent one is the start, 640 or 8,320, `.` where nothing was written. `n` and numbers set the sheet of credit factors that
 `s` and a header line lends; its answer is how many were read, 67 for more, or `bad` for what is no list of numbers, and then the sheet is empty,
-as it is at first. `k` keeps a copy of the book and answers nothing; `j` joins the copy, at first that of a refused opening, and the book, which becomes
-what joining gave.
+as it is at first. `k` keeps a copy of the book, without its marks, and answers nothing; `j` joins the copy, at first that of a refused opening, and the book, which becomes
+what joining gave. `x` exchanges the book and the copy and answers nothing: the book then has no marks.
 
 The stored lists hold only loans whose two numbers the reference leaves no choice, so that it knows every byte of the answers.
 Further lists (--run) hold any loans: by turns the same lines in two orders, and left standing by way of marks and returns, with refused lines between,
-and regions that are joined, beside one book with the lines of both; half of them under a sheet. Their reports and tables are compared with the
-reference, and byte for byte with each other.
+and regions that are joined, beside one book with the lines of both, some also with a neutral book or in another grouping; half of them under a sheet.
+Their reports and tables are compared with the reference, and byte for byte with each other.
 """
 import random
 import re
@@ -28,7 +28,7 @@ from reference.sheet import LENGTH
 # Of each closing the bytes that it asks for, the buffer of which a part is lent, and the sizes that are tried.
 LEAST = {b"c": book.REPORT_BUFFER, b"t": cells.BUFFER}
 BUFFERS = {b"c": 640, b"t": 8_320}
-INPUT = 196_608  # bytes that the program reads
+INPUT = 327_680  # bytes that the program reads
 SIZES = {kind: (0, least - 1, least, least + 1, BUFFERS[kind]) for kind, least in LEAST.items()}
 
 
@@ -93,6 +93,9 @@ class Program:
         kind, rest = call[:1], call[1:]
         if kind == b"k":
             self.kept = self.book.copy()
+            return b""
+        if kind == b"x":
+            self.book, self.kept = self.kept, self.book.copy()
             return b""
         if kind == b"n":
             return self._lend(rest)
@@ -657,7 +660,9 @@ def _joining_calls(source):
         _first_joining_calls, _range_calls, _line_count_calls, _column_choice_calls, _factor_choice_calls, _no_loans_calls, _same_sheet_calls, _same_index_calls,
         _withdrawn_index_calls, _dropped_marks_calls, _refused_joining_calls, _untouched_copy_calls, _added_sums_calls, _added_counts_calls, _joined_on_calls,
     )
-    return [call for calls in fixed for call in calls()] + _one_book_calls(source)
+    calls = [call for calls in fixed for call in calls()] + _one_book_calls(source)
+    calls += _exchange_calls() + _grouping_calls(source) + _other_grouping_calls()
+    return calls + _neutral_calls(source) + _full_neutral_calls() + _not_neutral_calls()
 
 
 FLAT = 8, *(9,) * 5, *(7,) * (LENGTH - 12), *(5,) * 6  # a sheet of few bytes, in which its first and its last number can be another
@@ -668,13 +673,16 @@ def _counted(*counts):
     return _opening(book_runs.book_header(*counts))
 
 
-def _with_lines(*lines):
-    """The calls that open a book of an all-zero header and feed it lines."""
-    return _counted(0, 0, 0) + _fed(*lines)
+def _with_lines(*lines, sheet=None):
+    """The calls that open a book of an all-zero header, under a sheet where there is one, and feed it lines."""
+    return _opening(book_runs.HEADER[:-1], sheet) + _fed(*lines)
 
 
 def _joined(first, second):
-    """The calls that join the books that two lists of calls make."""
+    """The calls that join the books that two lists of calls make; a second list that keeps a copy itself comes first, and its book is exchanged for the first."""
+    if b"k" in second:
+        assert b"k" not in first
+        return [*second, b"k", *first, b"x", b"j"]
     return [*first, b"k", *second, b"j"]
 
 
@@ -713,11 +721,13 @@ def _many_lines(count, *values):
     return [*calls, b"k"]
 
 
+TEN_VALUES = [book_runs.index(b"other", month, 7) for month in range(200_501, 200_511)]
+
+
 def _line_count_calls():
     """The lines that are not loans, index lines once: 100,000 join and 100,001 do not. Then no line more is taken that is not a loan (8)."""
-    ten = [book_runs.index(b"other", month, 7) for month in range(200_501, 200_511)]
     calls = []
-    for third, values in ((33_333, ()), (33_330, ten)):
+    for third, values in ((33_333, ()), (33_330, TEN_VALUES)):
         calls += _many_lines(third, *values)
         # From no other line, by joining the copy to it again and again.
         short = 100_000 - 3 * third - len(values)
@@ -755,9 +765,14 @@ def _factor_choice_calls():
         calls += _both_ways(_counted(*first), _counted(*second))
     # A loan at 3.0, in the last cell, beside a book without such loans, which is charged as before.
     header = book_runs.book_header(1, 1, 0)
-    lines = (book_runs.loan(20_000_000 + i, 20_500_000, b"none") for i in range(1000))
-    unscored = next(line for line in lines if _is_certain(line, header))
+    unscored = next(_certain_unscored(header))
     return calls + _joined(_counted(5, 0, 0) + _fed(*_small(13) * 5), _opening(header) + _fed(unscored)) + CLOSED
+
+
+def _certain_unscored(header):
+    """Loans without a score, in the last cell, whose numbers are certain under the header, one after another."""
+    lines = (book_runs.loan(20_000_000 + i, 20_500_000, b"none") for i in range(1000))
+    return (line for line in lines if _is_certain(line, header))
 
 
 def _no_loans_calls():
@@ -896,24 +911,30 @@ def _one_book(source, header, lines, sheet=None):
     return _opening(header, sheet) + _fed(*source.sample(indexed, len(indexed)), *source.sample(others, len(others))) + CLOSED
 
 
-def _one_book_calls(source):
-    """Regions joined one after another, and one book with the added header and the lines of all, index lines once and first: both closings are the same."""
+def _certain_regions(source, counts, sheet=None):
+    """Regions with these headers, the same two index lines in any order and loans whose numbers are certain: the calls of each, and all lines, index lines once and first."""
     _, own, december, _ = _indexed_loan()
     others = book_runs.OTHER_KINDS.splitlines()
     since = book_runs.made(201003, b"toronto")
+    regions, all_lines = [], [own, december]
+    for number, (loans, unscored, fresh, held) in enumerate(counts):
+        header = book_runs.book_header(loans, unscored, fresh, held)
+        kinds = [book_runs.FRESH_SCORE] * fresh + [book_runs.NO_SCORE] * unscored + [book_runs.AGED_SCORE] * (loans - unscored - fresh)
+        lines = [_certain_loan(source, kind, header, *filter(None, [sheet])) for kind in kinds[1:]]
+        lines += [_certain_region_loan(kinds[0], header, (own, december), since, sheet), *others[number::3]]
+        regions.append(_opening(header, sheet) + _fed(*source.sample((own, december), 2), *lines))
+        all_lines += lines
+    return regions, all_lines
+
+
+def _one_book_calls(source):
+    """Regions joined one after another, and one book with the added header and the lines of all, index lines once and first: both closings are the same."""
     calls = []
     for counts, sheet in ((((2, 0, 2, 700), (1, 0, 1, 30)), None), (((3, 1, 1, 700), (2, 1, 0, 10**7), (1, 0, 0, 1)), sheets.DISTINCT)):
-        regions, all_lines = [], [own, december]
-        for number, (loans, unscored, fresh, held) in enumerate(counts):
-            header = book_runs.book_header(loans, unscored, fresh, held)
-            kinds = [book_runs.FRESH_SCORE] * fresh + [book_runs.NO_SCORE] * unscored + [book_runs.AGED_SCORE] * (loans - unscored - fresh)
-            lines = [_certain_loan(source, kind, header, *filter(None, [sheet])) for kind in kinds[1:]]
-            lines += [_certain_region_loan(kinds[0], header, (own, december), since, sheet), *others[number::3]]
-            regions.append(_opening(header, sheet) + _fed(*source.sample((own, december), 2), *lines))
-            all_lines += lines
+        regions, all_lines = _certain_regions(source, counts, sheet)
         joined = regions[0]
         for region in regions[1:]:
-            joined = [*joined, b"k", *region, b"j"]
+            joined = _joined(joined, region)
         header = book_runs.book_header(*map(sum, zip(*counts)))
         one = _one_book(source, header, all_lines, sheet)
         assert answers(joined + CLOSED)[-2:] == answers(one)[-2:]
@@ -926,6 +947,125 @@ def _certain_region_loan(kind, header, values, since, sheet):
     score = {book_runs.FRESH_SCORE: b"720 7", book_runs.AGED_SCORE: b"720 40", book_runs.NO_SCORE: b"none"}[kind]
     lines = (book_runs.loan(20_000_000 + i, 14_000_000, score, since=since) for i in range(1000))
     return next(line for line in lines if _is_certain(line, header, *filter(None, [sheet]), values=values))
+
+
+def _exchange_calls():
+    """The book and the copy exchanged: each is the other as it was, tables too, and neither has marks; what comes to the book then does not come to the copy."""
+    header, own, december, line = _indexed_loan()
+    first = _opening(header, sheets.DISTINCT) + _fed(own, december, line) + _marks(b"a") + _fed(b"(stated 1)")
+    second = _counted(1, 0, 0) + _fed(b"(stated 2)") + _marks(b"b")
+    calls = [*first, b"x", *CLOSED, b"x", *CLOSED, *_marks(b"A"), *_fed(own), b"k", *second, b"x", *CLOSED, *_fed(own, line, b"(stated 4)"), *CLOSED[:1]]
+    # Exchanged back, the second book has its own tables and no mark, and the first has the line that it was fed meanwhile.
+    calls += [b"x", *_marks(b"B"), *_fed(own, *_small(13, 13)), *CLOSED, *_counted(0, 0, 0), b"x", *CLOSED[:1], *_fed(own), b"x", *CLOSED[:1]]
+    # The copy that an exchange leaves is joined under its own sheet and index values.
+    calls += [*first, b"k", *second, b"x", *_with_lines(), b"j", *_fed(*_small(13)), *CLOSED[:1]]
+    calls += [*second, b"k", *first, b"x", *_with_lines(own, december, sheet=sheets.DISTINCT), b"j", *CLOSED[:1]]
+    # Eight marks can be set after an exchange, and are dropped by the next two.
+    return calls + _fed(*book_runs.EIGHT_MARKS) + _marks(b"ninth") + [b"x", *_fed(*book_runs.EIGHT_MARKS), *_marks(b"ninth"), b"x", *_marks(b"A"), *CLOSED[:1]]
+
+
+def _agreed(calls):
+    """These calls, of which every joining succeeds and all closings of a kind write the same bytes."""
+    told = answers(calls)
+    assert b"j 0\n" in told and b"j 16\n" not in told
+    for kind in SIZES:
+        closed = {answer for answer in told if answer.startswith(kind)}
+        assert len(closed) <= 1 and all(answer.startswith(kind + b" 0 ") for answer in closed)
+    return calls
+
+
+def _grouping_calls(source):
+    """Three regions in all twelve groupings (request L9): all succeed, the closings write the same bytes, and the last book goes on as any.
+
+    Each has fractions of a cent in rest and moved. The second was returned to a mark and has marks, which are dropped.
+    """
+    fractions = _fed(b"(claims 1)", b"(policy (class home) (prem 10) (term 300) (done 5))")
+    own = _indexed_loan()[1]
+    calls = []
+    for sheet, closings in ((None, CLOSED), (sheets.DISTINCT, CLOSED[:1])):
+        regions, _ = _certain_regions(source, ((2, 1, 0, 700), (2, 0, 1, 30), (1, 0, 0, 1)), sheet)
+        lent = [] if sheet is None else [_lending(sheet)]
+        regions = [region[len(lent) :] + fractions for region in regions]  # the sheet is lent once
+        regions[1] += _marks(b"a") + _fed(b"(claims 1001)") + _marks(b"A", b"b")
+        calls += _agreed([*lent, *(call for joined in book_runs.groupings(_joined, regions) for call in (*joined, *closings))])
+        calls += _fed(own, *_small(0), b"(claims 3)") + _marks(b"A", b"b", b"a") + CLOSED
+    return calls
+
+
+def _other_grouping_calls():
+    """Three regions of which some groupings are 16 and the others write the same bytes: the first takes the second to 5% unscored, but not where the third is with either.
+
+    Of the second's loans all but the one without a score are fed to the joined book.
+    """
+    header = book_runs.book_header(1, 1, 0)
+    unscored = _certain_unscored(header)
+    aged = _certain_balance(b"785 61", sheets.DISTINCT, book_runs.book_header(1, 0, 0))
+    regions = [_counted(1, 0, 0) + _fed(aged), _counted(19, 1, 0) + _fed(next(unscored)), _opening(header) + _fed(next(unscored))]
+    joined = list(book_runs.groupings(_joined, regions))
+    well = [calls for calls in joined if b"j 16\n" not in answers(calls)]
+    assert (len(joined), len(well)) == (12, 8)
+    after = _fed(*_small(13) * 18) + CLOSED[:1]
+    _agreed([call for calls in well for call in calls + after])
+    return [call for calls in joined for call in calls + (after if calls in well else CLOSED[:1])]
+
+
+def _with_past(lines, withdrawn, sheet=None):
+    """The calls of a book of an all-zero header with marks, returns, refused and withdrawn lines before and after these lines, which alone still stand."""
+    calls = _with_lines(sheet=sheet) + _marks(b"a") + _fed(*withdrawn, b"x") + _marks(b"a", b"A") + _fed(*lines, *lines[:1])
+    return calls + _marks(b"b") + _fed(*withdrawn[1:]) + _marks(b"B", b"C")
+
+
+def _neutral_calls(source):
+    """A book of an all-zero header with the same index lines, under the same sheet, on either side of a book (request L9).
+
+    The closings write the same bytes and the book goes on taking what it took: the loan that it is short of (0) and none more (5), no index value again (11). So it is
+    with a neutral book that has a past, and with two joined.
+    """
+    _, own, december, _ = _indexed_loan()
+    calls = []
+    for sheet in (None, sheets.DISTINCT):
+        (whole,), _ = _certain_regions(source, ((3, 1, 1, 1000),), sheet)
+        loan = next(call for call in whole if b"(from 201003)" in call)
+        short = [call for call in whole if call != loan]
+        plain = _with_lines(december, own, sheet=sheet)
+        past = _with_past([own, december], [own.replace(b"9000", b"9001"), b"(stated 7)", loan[1:]], sheet)
+        calls += _agreed([*whole, *CLOSED, b"k", *plain, b"j", *CLOSED, b"k", *plain, b"x", b"j", *CLOSED])
+        calls += _agreed(plain + CLOSED[:1] + _joined(plain, past) + CLOSED[:1]) + _fed(own, b"(claims 1)")
+        after = CLOSED[:1] + [loan, loan] + _fed(own, december) + _marks(b"A", b"B") + CLOSED[:1]
+        ways = [short, *(_joined(*pair) for each in (past, _joined(plain, past)) for pair in ((short, each), (each, short)))]
+        assert len({tuple(answers(way + after)[-len(after) :]) for way in ways}) == 1
+        calls += [call for way in ways for call in way + after]
+    return calls
+
+
+def _full_neutral_calls():
+    """99,999 and 100,000 lines that are not loans, with ten index lines: a neutral book on either side joins, and 8 comes exactly where it came before."""
+    neutral, one = _with_lines(*TEN_VALUES[::-1]), _fed(b"(c 7)")
+    many = _many_lines(99_989, *TEN_VALUES)
+    calls = [*one, *one, *neutral, b"j", *one, *one, *neutral, b"x", b"j", *one, *one, b"k", *neutral, b"j", *one, b"k", *neutral, b"x", b"j", *one]
+    told = answers(many + calls)[len(many) :]
+    joined = b"".join(answer for call, answer in zip(calls, told) if call in (b"j", *one))
+    assert joined == b"f 0\nf 8\n" + b"j 0\nf 0\nf 8\n" * 2 + b"j 0\nf 8\n" * 2
+    return many + calls + _fed(TEN_VALUES[0], book_runs.index(b"toronto", FIRST, 7)) + CLOSED[:1]
+
+
+def _not_neutral_calls():
+    """What is not neutral: an index line fewer or more and another sheet (16); a line of nothing, which counts (8, and 16 at 100,000); held of 1, which is taken from home."""
+    header, own, december, line = _indexed_loan()
+    whole = _opening(header) + _fed(own, december, line)
+    calls = []
+    for other in (_with_lines(own), _with_lines(own, december, book_runs.index(b"other", DECEMBER, 7)), _with_lines(own, december, sheet=FLAT)):
+        both = _both_ways(whole, other)
+        assert answers(both).count(b"j 16\n") == 2
+        calls += both
+    held = _counted(0, 0, 0, 1) + _fed(own, december)
+    for pair in ((whole, held), (held, whole)):
+        joined = _joined(*pair) + CLOSED[:1]
+        assert answers(whole + CLOSED[:1])[-1] != answers(joined)[-1]
+        calls += joined
+    zero, one = _with_lines(b"(stated 0)"), _fed(b"(c 7)")
+    calls += [*_many_lines(99_999), *zero, b"j", *one, *zero, b"x", b"j", *one, *CLOSED[:1]]
+    return [*calls, b"k", *zero, b"j", *zero, b"x", b"j", *CLOSED[:1]]
 
 
 def _table_calls(source, header, loans):
@@ -998,25 +1138,34 @@ def _region_calls(source, region):
     return calls[: len(calls) - source.randrange(1, 4)] if source.randrange(12) == 0 and len(calls) > 6 else calls
 
 
+def _neutral_to(source, found):
+    """The calls that join a book with one under its sheet with its index lines, in another order, and no other line, on either side, close it and keep it; it is kept before."""
+    header, *indexed = book_runs.neutral_input(source, found).splitlines()
+    return [*_opening(header, found.sheet), *_fed(*indexed), *source.choice(([b"j"], [b"x", b"j"])), *CLOSED, b"k"]
+
+
 def joining_calls(source):
-    """The calls that join some regions in turn, now and then a book with the one that it was joined to, and those of one book with the lines of each that is joined further."""
+    """The calls that join some regions in turn, now and then a book with the one that it was joined to or with a neutral one, those of one book with the lines of each that is
+    joined further, and now and then those that join the first three in another grouping."""
     found, program, calls = book_runs.regions(source, source.choice((2, 2, 3, 4))), Program(), []
+    regions = [_region_calls(source, region) for region in found]
 
     def make(*further):
         calls.extend(further)
         return [program.answer(call, {kind: lambda _: b"" for kind in SIZES}) for call in further]
 
-    make(*_region_calls(source, found[0]), b"k")
-    for region in found[1:]:
-        make(*_region_calls(source, region))
+    make(*regions[0], b"k")
+    for region, fed in zip(found[1:], regions[1:]):
+        make(*fed)
         again = source.choice(([], [], [], [b"j", *CLOSED]))
         if b"j 16\n" in make(b"j", *CLOSED, *again):
-            # What stands then, and the copy as before: it joins with a book that has its index lines and no other.
-            copy = program.kept
-            make(b"f" + source.choice(region.lines[1:] or [b""]), *CLOSED, *_opening(book_runs.HEADER[:-1], copy.sheet))
-            make(*_fed(*book.lines_of_both(copy, copy)[0]), b"j", *CLOSED)
+            # What stands then, and the copy as before: a neutral book changes nothing in it.
+            make(b"f" + source.choice(region.lines[1:] or [b""]), *CLOSED, *_neutral_to(source, program.kept))
         else:
             make(b"k", *_as_one(source, program.book), *CLOSED)
+            make(*(_neutral_to(source, program.kept) if source.randrange(4) == 0 else ()))
+    if len(regions) > 2 and source.randrange(2):
+        make(*source.choice(list(book_runs.groupings(_joined, regions[:3]))), *CLOSED)
     return calls
 
 
@@ -1038,7 +1187,8 @@ class _Closed:
 
         def written(found):
             text = self.left[kind].pop(0) if self.left[kind] else b""
-            key = found.loans, found.unscored, found.fresh, found.held, found.sheet, tuple(sorted(found.standing_lines()))
+            sheet = found.sheet or sheets.BUILT_IN
+            key = found.loans, found.unscored, found.fresh, found.held, sheet, tuple(sorted(found.standing_lines()))
             self.books.setdefault(key, (found.copy(), {each: set() for each in SIZES}))[1][kind].add(text)
             return text
 

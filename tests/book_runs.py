@@ -9,8 +9,9 @@ these lines standing by way of marks and returns; and its two sums, and the char
 has alone, in a book of its own. Some books are run
 under a sheet of credit factors, by the words `sheet FILE`, and held to the requirement with that sheet; all others print the same bytes
 under a copy of the built-in table. Books are joined by the words `join FILE ..`: what is printed of several files is held to the reference's one book of
-their lines, and to what the program prints of one file with these lines. Besides, the program is run with an input that goes on after a refusal, with a read and with a
-write that fails, with files that are no sheet, and with other words.
+their lines, and to what the program prints of one file with these lines; in other orders, and with a neutral file among them, the same bytes are printed wherever
+they are joined. Besides, the program is run with an input that goes on after a refusal, with a read and with a write that fails, with files that are no sheet, and with
+other words.
 """
 import argparse
 import collections
@@ -1093,6 +1094,13 @@ class Runner:
 MOST_LOANS, MOST_HELD = 1_000_000, 10**13
 
 
+def groupings(join, three):
+    """What `join` gives in each of the twelve groupings of three: in every order, with the first two joined first and with the last two (request L9)."""
+    for a, b, c in itertools.permutations(three):
+        yield join(join(a, b), c)
+        yield join(a, join(b, c))
+
+
 def header_of(found):
     """The header line of a book."""
     return book_header(found.loans, found.unscored, found.fresh, found.held)
@@ -1120,6 +1128,62 @@ def join_result(run, source, inputs):
     """What came out of several files."""
     wrong, report, with_cells = join_outcome(run, inputs, source)
     return wrong, b"\n--\n".join(inputs), report + with_cells
+
+
+def counts_unscored(data):
+    """Whether the header of an input counts loans without a score; one that is refused counts none."""
+    form = forms.read_opening(book.split_lines(data)[0])
+    return not isinstance(form, int) and form.values[1] > 0
+
+
+def unscored_first(inputs):
+    """Whether the inputs whose headers count loans without a score come before the others: where any order of them is joined, so is such an order."""
+    counted = list(map(counts_unscored, inputs))
+    return counted == sorted(counted, reverse=True)
+
+
+def orders_problem(tried):
+    """What is wrong with what was printed of the same files in several orders, each told as the inputs, the report and what is printed with the table; or None.
+
+    Reports are the same bytes, and where there is one, the files are joined in each order in which those with unscored loans come first.
+    """
+    joined = {(report, with_cells) for _, report, with_cells in tried if sums_of(report)}
+    if len(joined) > 1:
+        return "another report or table in another order"
+    if joined and any(unscored_first(inputs) and not sums_of(report) for inputs, report, _ in tried):
+        return "refused with the files without unscored loans last, and joined in another order"
+    return None
+
+
+def order_results(run, source, orders):
+    """What came out of the same files in several orders: of each, and of all of them together."""
+    tried = []
+    for inputs in orders:
+        wrong, report, with_cells = join_outcome(run, inputs, source)
+        tried.append((inputs, report, with_cells))
+        yield wrong or orders_problem(tried), b"\n--\n".join(inputs), report + with_cells
+
+
+def neutral_input(source, found):
+    """The input of a book with an all-zero header, the index lines of a book in another order and no other line: joined with that book it changes nothing (request L9)."""
+    indexed = book.lines_of_both(found, found)[0]
+    return HEADER + b"\n".join(source.sample(indexed, len(indexed)))
+
+
+def some_orders(source, inputs, sheet):
+    """Some files and, of those that are not joined (16) each time, of others every other time, another list.
+
+    It has them in any order, with those first whose headers count loans without a score, as always at 16, or with a neutral file among them where they are joined.
+    """
+    found = book.run_joined(inputs, sheet)
+    refusal = found[0] if isinstance(found, tuple) else 0
+    other, way = source.sample(inputs, len(inputs)), source.randrange(3)
+    if refusal == 16 or way == 0:
+        other.sort(key=counts_unscored, reverse=True)
+    elif refusal == 0 and way == 1:
+        other = list(inputs)
+        other.insert(source.randrange(len(inputs) + 1), neutral_input(source, found))
+    return [inputs, other] if refusal == 16 or source.randrange(2) else [inputs]
 
 
 def _loans(loans, unscored, fresh):
@@ -1161,7 +1225,7 @@ def _join_indexes():
 
 
 def _join_lines():
-    """100,000 lines that are not loans, and one more, with ten index lines and with none; marks, returns and lines withdrawn are not among them."""
+    """100,000 lines that are not loans, and one more, with ten index lines and with none; marks, returns, lines withdrawn and neutral files add none."""
     def lines(count, values=()):
         return HEADER + b"".join(values) + b"(b 1)\n" * count
 
@@ -1169,6 +1233,8 @@ def _join_lines():
     marked = HEADER + b"(mark a)\n" + b"(b 1)\n" * 7 + b"(back a)\n" * 9
     yield [lines(60_000, values), lines(39_990, values[::-1])]
     yield [lines(60_000, values), lines(39_991, values)]
+    neutral = lines(0, values[::-1])
+    yield [neutral, lines(60_000, values), neutral, lines(39_990, values), neutral]
     yield [lines(60_000), lines(40_000), marked]
     yield [lines(60_000), lines(40_000), marked + b"(b 1)\n"]
 
@@ -1197,6 +1263,27 @@ def join_inputs():
     yield from ([well], [well + b"\n"], [odd], [well, well], [odd, odd, odd], [well, well + b"\n", well])
 
 
+def _three_regions():
+    """Files of three regions that are joined in every order: loans of every kind, one in each by the index, index lines in other orders, fractions of a cent, a mark and a return."""
+    own, december = index(b"toronto", 201003, 9_000), index(b"toronto", DECEMBER, 15_000)
+    parts = [b"(claims 1)", b"(policy (class home) (prem 10) (term 300) (done 5))"]
+    withdrawn = [mark(b"a"), b"(claims 1001)", back(b"a"), mark(b"b")]
+    regions = (2, 1, 0, 700, [own, december, *parts]), (2, 0, 1, 30, [december, *withdrawn, own, *parts]), (3, 1, 1, 1, [own, *parts, december])
+    return [_region(*region).replace(KEPT, made(201003, b"toronto"), 1) for region in regions]
+
+
+def fixed_orders(source):
+    """Fixed files in several orders, of which the same report is printed wherever one is."""
+    regions = _three_regions()
+    # In every order: files that are always joined, and files that are not where the first two stand first (16 at the second).
+    for inputs in (regions, [_region(1, 0, 0), _region(19, 1, 0), _region(1, 1, 0)]):
+        yield list(itertools.permutations(inputs))
+    # With a neutral file in each place, and with two.
+    neutral = neutral_input(source, book.run(regions[0]))
+    yield [regions, *([*regions[:place], neutral, *regions[place:]] for place in range(4)), [neutral, *regions, neutral]]
+    yield from ([regions[:1], [neutral, regions[0]], [regions[0], neutral]], [[neutral], [neutral] * 2, [neutral] * 3])
+
+
 Region = collections.namedtuple("Region", "lines sheet")  # the lines of a book, the header first, and its sheet or None
 
 
@@ -1216,6 +1303,12 @@ def _fitting_counts(source, total):
         if not book.wanting(before, book.Book(*counts, 0)):
             break
     return counts
+
+
+def _parted_counts(source):
+    """Counts of three headers, in any order, that are joined in some groupings and not in others: one takes another to 5% unscored or less, but not where the third is with either."""
+    scored, unscored = source.randrange(1, 19), source.randrange(1, 4)
+    return source.sample([(scored, 0, 0), (20 * unscored - source.randrange(1, scored + 1), unscored, 0), (1, 1, 0)], 3)
 
 
 def _with_held(lines, most):
@@ -1272,13 +1365,14 @@ IN_FILES = (_other_index, _held_at_limit)
 
 
 def regions(source, count, ways=IN_CALLS):
-    """So many books with the same index lines, under one sheet or none; each but the first mostly joins with those before it that joined."""
+    """So many books with the same index lines, under one sheet or none; each but the first mostly joins with those before it that joined. Some three join in some groupings alone."""
     places, values = random_index(source)
     sheet = sheets.kept(source) if _other_sheet in ways and source.randrange(2) else None
-    found = [Region(region(source, random_counts(source), places, values), sheet)]
+    parted = _parted_counts(source) if count > 2 and source.randrange(5) == 0 else []
+    found = [Region(region(source, parted.pop() if parted else random_counts(source), places, values), sheet)]
     total = opened(found[0])
     while len(found) < count:
-        counts = random_counts(source) if source.randrange(3) == 0 else _fitting_counts(source, total)
+        counts = parted.pop() if parted else random_counts(source) if source.randrange(3) == 0 else _fitting_counts(source, total)
         one = Region(_with_held(region(source, counts, places, values), MOST_HELD - total.held), sheet)
         way = source.randrange(10)
         if way < len(ways):
@@ -1302,18 +1396,22 @@ def region_files(source, harm=False):
 
 
 def join_results(run, seed, count):
-    """What came out of so many lists of generated files: in one of eight a file is damaged; a third under a sheet."""
+    """What came out of so many lists of generated files, half of them also in another order: in one of eight a file is damaged; a third under a sheet."""
     source = random.Random(seed)
     for i in range(count):
         files = region_files(source, i % 8 == 7)
         lending = _lent(run, source, i % 6 == 2) if i % 3 == 2 else run
-        yield join_result(lending, source, [_joined(source, lines) for lines in files])
+        orders = some_orders(source, [_joined(source, lines) for lines in files], lending.sheet)
+        yield from order_results(lending, source, orders)
 
 
 def fixed_join_results(run):
     """What came out of the fixed files."""
     source = random.Random(61)
     yield from (join_result(run, source, inputs) for inputs in join_inputs())
+    for lending in (run, run.under(sheets.DISTINCT)):
+        for orders in fixed_orders(source):
+            yield from order_results(lending, source, orders)
     # Under a sheet, and under one that breaks a rule.
     inputs = [_region(10, 0, 9), _region(10, 0, 9, 7)]
     yield from (join_result(run.under(sheet), source, inputs) for sheet in (sheets.DISTINCT, sheets.BUILT_IN, sheets.OUTSIDE[0]))

@@ -1,5 +1,7 @@
 """The reference held to document 01's twelve examples, and to Python's own decimal exponential."""
 import decimal
+import functools
+import itertools
 import random
 import unicodedata
 import unittest
@@ -802,6 +804,153 @@ class Joining(unittest.TestCase):
         told = [answer[:4] for _ in range(60) for answer in book_cases.answers(book_cases.joining_calls(source), texts)]
         for answer, least in ((b"j 0\n", 60), (b"j 16", 20), (b"c 0 ", 100), (b"c 6 ", 5), (b"t 0 ", 100), (b"t 6 ", 5)):
             self.assertGreater(told.count(answer), least)
+
+
+class Grouping(unittest.TestCase):
+    """Request L9: books joined in any grouping."""
+
+    # Loans and unscored ones around 5%.
+    AROUND = (0, 0), (1, 0), (2, 0), (18, 0), (1, 1), (2, 1), (18, 1), (19, 1), (20, 1), (21, 1), (39, 2), (40, 2), (41, 2)
+
+    @staticmethod
+    def parts(found):
+        """Every part that is kept of a book, its lines in no order; None for none."""
+        if found is None:
+            return None
+        header = found.loans, found.unscored, found.fresh, found.held, found.aged, found.sheet or sheet.BUILT_IN
+        counts = found.loan_count, found.unscored_count, found.fresh_count, found.other_count
+        return header, counts, found.index, found.marks, sorted(found.standing_lines())
+
+    @staticmethod
+    def joined(a, b):
+        """The joined book; None where a condition is wanting, or one of the two is none."""
+        if a is None or b is None:
+            return None
+        refusal, both = book.join(a, b)
+        return None if refusal else both
+
+    @staticmethod
+    @functools.lru_cache(maxsize=None)
+    def added(a, b):
+        """The same of headers alone, told by their loans, unscored and fresh."""
+        if a is None or b is None or book.wanting(book.Book(*a, 0), book.Book(*b, 0)):
+            return None
+        return a[0] + b[0], a[1] + b[1], a[2] + b[2]
+
+    def random_books(self, count, seed, times):
+        """So many times some regions of the tests, with marks and without."""
+        source = random.Random(seed)
+        for _ in range(times):
+            found = book_runs.regions(source, count)
+            ways = [book_runs.Region(book_runs.by_marks(source, lines) if source.randrange(2) else lines, lent) for lines, lent in found]
+            yield list(map(book_runs.opened, ways)), source
+
+    def test_commutes(self):
+        """Either order is refused, or both give the same book."""
+        joined = refused = 0
+        for (a, b), _ in self.random_books(2, 91, 60):
+            both = self.joined(a, b)
+            self.assertEqual(self.parts(both), self.parts(self.joined(b, a)))
+            joined += both is not None
+            refused += both is None
+        self.assertGreater(min(joined, refused), 15)
+
+    def test_neutral(self):
+        """A book of an all-zero header with the same index lines, under the same sheet, changes nothing on either side; held, a line, an index line or another sheet does."""
+        for (found,), source in self.random_books(1, 92, 30):
+            lines = book_runs.neutral_input(source, found).splitlines()
+            neutral = book_runs.opened(book_runs.Region(lines, found.sheet))
+            for both in (self.joined(found, neutral), self.joined(neutral, found)):
+                self.assertEqual(self.parts(both), self.parts(found.copy()))
+            for line in (b"(b 0)", b"(index other 201512 999999)", b"(index calgary 200501 999999)"):
+                other = neutral.copy()
+                taken = other.feed(line) == 0
+                self.assertEqual(self.parts(self.joined(other, found)) == self.parts(found.copy()), not taken)
+            for other in (book.Book(0, 0, 0, 1, found.sheet), book.Book(0, 0, 0, 0, sheets.DISTINCT)):
+                refused = [line for line in lines[1:] if other.feed(line)]
+                self.assertEqual(refused, [])
+                self.assertNotEqual(self.parts(self.joined(found, other)), self.parts(found.copy()))
+
+    def test_groupings(self):
+        """Of three random books all groupings that succeed give the same book; some succeed where others do not."""
+        every = mixed = 0
+        for three, _ in self.random_books(3, 93, 60):
+            given = [self.parts(both) for both in book_runs.groupings(self.joined, three)]
+            joined = [each for each in given if each is not None]
+            self.assertEqual(joined, joined[:1] * len(joined))
+            every += len(joined) == len(given) == 12
+            mixed += 0 < len(joined) < len(given)
+        self.assertGreater(every, 8)
+        self.assertGreater(mixed, 3)
+
+    def headers(self):
+        """All headers of few loans, then those around 5% without fresh scores and with none but fresh ones."""
+        few = [(loans, unscored, fresh) for loans in range(7) for unscored in range(loans + 1) for fresh in range(loans - unscored + 1)]
+        return few, [(loans, unscored, fresh) for loans, unscored in self.AROUND for fresh in {0, loans - unscored}]
+
+    def test_headers(self):
+        """Of three headers: the groupings that succeed give the same; where one does, so does every order, from the first on, in which those that count unscored loans come first."""
+        mixed = 0
+        for headers in self.headers():
+            for pair in itertools.product(headers, repeat=2):
+                self.assertEqual(self.added(*pair), self.added(*pair[::-1]))
+            for three in itertools.combinations_with_replacement(headers, 3):
+                given = set(book_runs.groupings(self.added, three))
+                mixed += None in given and len(given) > 1
+                given.discard(None)
+                self.assertLessEqual(len(given), 1)
+                self.assert_law(three, given)
+        self.assertGreater(mixed, 30)
+
+    def assert_law(self, headers, given):
+        """Where anything is given in some order, it is so in each order in which headers that count unscored loans come first."""
+        if given:
+            first, last = ([header for header in headers if (header[1] > 0) == counts] for counts in (True, False))
+            for order in itertools.product(itertools.permutations(first), itertools.permutations(last)):
+                self.assertEqual({functools.reduce(self.added, [*order[0], *order[1]])}, given, headers)
+
+    def test_four_headers(self):
+        """The same of four headers, joined from the first on in every order."""
+        mixed = 0
+        for four in itertools.combinations_with_replacement([(loans, unscored, 0) for loans, unscored in self.AROUND], 4):
+            given = {functools.reduce(self.added, order) for order in itertools.permutations(four)}
+            mixed += None in given and len(given) > 1
+            given.discard(None)
+            self.assertLessEqual(len(given), 1)
+            self.assert_law(four, given)
+        self.assertGreater(mixed, 100)
+
+    def test_generated_calls(self):
+        """The calls that the tests generate join three in another grouping, after a book with the same lines was closed, and exchange the book and the copy."""
+        source, texts = random.Random(94), {kind: lambda _: b"" for kind in book_cases.SIZES}
+        grouped, again, exchanged = 0, 0, 0
+        for _ in range(60):
+            calls, program, closed = book_cases.joining_calls(source), book_cases.Program(), []
+            for call in calls:
+                closed += [self.parts(program.book)] * (call == book_cases.CLOSED[0])
+                program.answer(call, texts)
+            ends = calls[-3] == b"j"  # only those that end with another grouping do
+            grouped += ends
+            again += ends and closed[-1] in closed[:-1]
+            exchanged += b"x" in calls
+        self.assertGreater(grouped, 8)
+        self.assertGreater(again, 5)
+        self.assertGreater(exchanged, 8)
+
+    def test_generated_orders(self):
+        """The files that the tests generate are joined in two orders, with a neutral file, and with those that count unscored loans first where they are not as they stand."""
+        source = random.Random(95)
+        seen = dict.fromkeys(("both", "law", "neutral"), 0)
+        for _ in range(160):
+            inputs = [b"\n".join(lines) for lines in book_runs.region_files(source)]
+            for other in book_runs.some_orders(source, inputs, None)[1:]:
+                given = [isinstance(book.run_joined(order), book.Book) for order in (inputs, other)]
+                moved = len(other) == len(inputs) and other != inputs
+                seen["both"] += moved and all(given)
+                seen["law"] += given == [False, True] and book_runs.unscored_first(other)
+                seen["neutral"] += len(other) > len(inputs) and all(given)
+        self.assertGreater(seen["law"], 2, seen)
+        self.assertGreater(min(seen["both"], seen["neutral"]), 8, seen)
 
 
 def changed(numbers, changes):

@@ -1,68 +1,63 @@
 -- A joined book is one book with the added header, fed the lines still standing in both, index lines once and first. Assumes nothing.
 use mathlib.Core.Path.{_≡_, refl, sym, _∙_, ap, ap₂, subst}
 use mathlib.Core.Bool.{Bool, true, false, _&&_}
-use mathlib.Core.List.{List, [], _∷_, _++_, List·Memᴰ, List·Memᴰ·head, List·Memᴰ·tail, List·Memᴰ·not-nil}
+use mathlib.Core.List.{List, [], _∷_, _++_, List·Memᴰ, List·Memᴰ·head, List·Memᴰ·tail, List·Memᴰ·append-cases}
 use mathlib.Core.List.{List·Permᴰ, List·Permᴰ·nil, List·Permᴰ·cons, List·Permᴰ·swap, List·Permᴰ·trans}
 use mathlib.Core.Logic.{⊎-elim}
-use Prim.Native.Nat.{ℕ, _+_, _≤_, _<_}
+use Prim.Native.Nat.{ℕ, _+_, _≤_}
 use native.Mathlib.Omega.{arith}
 use lib.Dec.{eqb}
-use lib.ListN.{length, getD}
+use lib.ListN.{getD}
 use borrow.Author.Tests.{le-leb}
 use Rattle.exact.specs.Choice.{pick}
 use Rattle.loan_charge.specs.CreditFactor.{ratesOf}
 use Rattle.sheet.specs.Sheet.{SheetRules, sheetPasses}
 use Rattle.sheet.proofs.Loading.{loading}
 use Rattle.line_forms.specs.declared.Header.{Header}
-use Rattle.line_forms.specs.declared.HeaderLine.{HeaderLine}
 use Rattle.line_forms.specs.declared.HeaderLine.the-variants.{Header as HeaderRead}
 use Rattle.line_forms.specs.declared.IndexValue.{IndexValue}
 use Rattle.line_forms.specs.declared.Loan.{Loan}
 use Rattle.line_forms.specs.declared.Content.{Content}
-use Rattle.line_forms.specs.declared.Content.the-variants.{Header as header, Loan as loan, Index as index}
+use Rattle.line_forms.specs.declared.Content.the-variants.{Header as header, Index as index}
 use Rattle.line_forms.specs.Claims.{lineContent}
 use Rattle.line_forms.specs.Contents.{bytesOf, headerInRange, inRange}
 use Rattle.line_forms.specs.Readings.{lineOf, headerOf}
 use Rattle.line_forms.proofs.HeaderLaws.{bytes-read}
-use Rattle.figures.specs.declared.Counts.{Counts}
-use Rattle.figures.specs.declared.Sums.{Sums}
-use Rattle.figures.specs.Sums.{noSums, plus}
+use Rattle.figures.specs.Sums.{plus}
 use Rattle.figures.proofs.SumsLaws.{none-plus}
 use Rattle.cell_report.specs.CellReport.{placeOf}
-use Rattle.book_model.specs.declared.Adjustment.{Adjustment}
 use Rattle.book_model.specs.declared.Book.{Book}
 use Rattle.book_model.specs.Accepted.{Accepted, countsIn}
-use Rattle.book_model.specs.Calls.{State, Answer, stateAt, countsOf, openingRefusal, opening, feeding, SoundBook, Sound}
+use Rattle.book_model.specs.Calls.{State, stateAt, countsOf, openingRefusal, opening, feeding, SoundBook}
 use Rattle.book_model.specs.Cells.{loanBand, loanLtv, ofLoan, loanCell}
 use Rattle.book_model.specs.FreshScores.{CountsKept}
 use Rattle.book_model.specs.GivenState.{stateGiven, IsOpened}
 use Rattle.book_model.specs.History.{History, opened, fed, allFed, headerLine, sheetOf, termsOf, acceptedOf, linesTaken, sumsBy, sumsOf}
-use Rattle.book_model.specs.HouseIndex.{Index, adjustmentOf, lacking, ofIndex, setBy, valuesIn, placeFor, valuesAt, indexLine}
+use Rattle.book_model.specs.HouseIndex.{Index, adjustmentOf, lacking, ofIndex, valuesIn, placeFor, valuesAt, indexLine}
 use Rattle.book_model.specs.Joining.{addedHeader, KeepsChoices, MayJoin, addedCells, joinedState, indexLines, otherLines, addedHeaderLine}
 use Rattle.book_model.specs.Joining.{oneBook}
-use Rattle.book_model.specs.LineKinds.{sumBy, withIndexed, kindOf}
+use Rattle.book_model.specs.LineKinds.{sumBy, withIndexed}
 use Rattle.book_model.specs.Terms.{Terms, Basis, under, underSheet, termsFor, basisOf, factorFor}
-use Rattle.book_model.proofs.Adjustments.{Has, Settled, Alike, loan-has}
+use Rattle.book_model.proofs.Adjustments.{Has, Settled, Alike}
 use Rattle.book_model.proofs.Cells.{Held, a-loan as held-loan, no-loan, held}
-use Rattle.book_model.proofs.ChargedAlike.{ChargedAlike, AllAlike, sums-alike, placed-alike, factors-kept}
-use Rattle.book_model.proofs.Demand3.{opened-is, fed-is, chain, terms-stay}
+use Rattle.book_model.proofs.ChargedAlike.{AllAlike, sums-alike, placed-alike, factors-kept}
+use Rattle.book_model.proofs.Demand3.{opened-is, fed-is, terms-stay}
 use Rattle.book_model.proofs.Feeding.{Room}
 use Rattle.book_model.proofs.FreshScores.{taken-sound, opened-with, stays, fresh-scores}
 use Rattle.book_model.proofs.IndexTables.{setAt, indexOf}
-use Rattle.book_model.proofs.Ledger.{Good, Plain, good-of}
+use Rattle.book_model.proofs.Ledger.{Good, good-of}
 use Rattle.book_model.proofs.LineSums.{sum-permuted}
-use Rattle.book_model.proofs.Openings.{openedUnder}
 use Rattle.book_model.proofs.OwnFactors.{own-factors}
 use Rattle.book_model.proofs.Places.{places-are}
 use Rattle.book_model.proofs.SplitLines.{sum-append, sum-split, others-nothing, index-nothing, sums-both, sums-reordered, sums-index, sums-others}
-use Rattle.book_model.proofs.SplitLines.{among-index, among-others, among-both}
+use Rattle.book_model.proofs.SplitLines.{among-index, among-others}
 use Rattle.book_model.proofs.Steps.{bookOf, stateOf, counts, table-alike, no-notes}
 use Rattle.book_model.proofs.Tables.{tabulate, placed, placedBy, cellsOf, cells-length, cells-at}
 use Rattle.book_model.proofs.TakenWhole.{unmarked, InTurn, taken-in-turn, none-taken, Takeable, whole-in-turn}
 
 -- Lines in another order
 
-permuted-member : {xs ys : List (List ℕ)} → List·Permᴰ xs ys → (s : List ℕ) → List·Memᴰ s xs → List·Memᴰ s ys
+pub permuted-member : {A : Type 0} {xs ys : List A} → List·Permᴰ xs ys → (s : A) → List·Memᴰ s xs → List·Memᴰ s ys
 permuted-member List·Permᴰ·nil s m = m
 permuted-member (List·Permᴰ·cons e p) s (List·Memᴰ·head f) = List·Memᴰ·head (f ∙ e)
 permuted-member (List·Permᴰ·cons e p) s (List·Memᴰ·tail m) = List·Memᴰ·tail (permuted-member p s m)
@@ -90,29 +85,42 @@ terms-read : (sheet : List ℕ) (j : Header) → sheetPasses sheet ≡ true → 
 unfolding termsFor
 terms-read sheet j e = rw e refl
 
+-- The index lines of a book, in any order: what goes by index values is that of the book
+module _ (kept first : List (List ℕ)) (p : List·Permᴰ first (indexLines kept)) where
+  pub first-sum : (f : IndexValue → ℕ) → sumBy (ofIndex f 0) first ≡ sumBy (ofIndex f 0) kept
+  first-sum f = omega (arith, sum-permuted (ofIndex f 0) p, sum-split (ofIndex f 0) kept, others-nothing f kept)
+
+  pub first-values : valuesIn first ≡ valuesIn kept
+  unfolding valuesIn
+  first-values = λ i area month. first-sum (λ v. pick (eqb (v .area) area && eqb (v .month) month) (v .value) 0) i
+
+  pub first-index : indexOf first ≡ indexOf kept
+  unfolding indexOf setAt
+  first-index = ap (tabulate 1584 0) (λ j i. first-sum (λ v. pick (eqb i (placeFor (v .area) (v .month))) (v .value) 0) j)
+
+  -- they are index lines, of which no two set the same value
+  pub are-index : (s : List ℕ) → List·Memᴰ s first → (i : IndexValue) × (lineContent (lineOf s) ≡ index i)
+  are-index s k = among-index kept s (permuted-member p s k) .1
+
+  pub set-once : Good kept → (s : List ℕ) (i : IndexValue) → List·Memᴰ s first → lineContent (lineOf s) ≡ index i → valuesIn first (i .area) (i .month) ≡ i .value
+  set-once g s i k e =
+      ap (λ (v : (area month : ℕ) → ℕ). v (i .area) (i .month)) first-values ∙ g .once s i (among-index kept s (permuted-member p s k) .0) e
+
 -- The lines of two books, index lines of the first once and first, each part in any order
 module _ (kept others first rest : List (List ℕ)) (p : List·Permᴰ first (indexLines kept)) (q : List·Permᴰ rest (otherLines kept ++ otherLines others)) where
   abbrev lines : List (List ℕ)
   lines = first ++ rest
 
-  -- what goes by index values is that of the first book
-  first-sum : (f : IndexValue → ℕ) → sumBy (ofIndex f 0) first ≡ sumBy (ofIndex f 0) kept
-  first-sum f = omega (arith, sum-permuted (ofIndex f 0) p, sum-split (ofIndex f 0) kept, others-nothing f kept)
-
   index-sum : (f : IndexValue → ℕ) → sumBy (ofIndex f 0) lines ≡ sumBy (ofIndex f 0) kept
   index-sum f = omega (
     arith,
     sum-append (ofIndex f 0) first rest,
-    first-sum f,
+    first-sum kept first p f,
     sum-permuted (ofIndex f 0) q,
     sum-append (ofIndex f 0) (otherLines kept) (otherLines others),
     others-nothing f kept,
     others-nothing f others,
   )
-
-  first-values : valuesIn first ≡ valuesIn kept
-  unfolding valuesIn
-  first-values = λ i area month. first-sum (λ v. pick (eqb (v .area) area && eqb (v .month) month) (v .value) 0) i
 
   same-values : valuesIn lines ≡ valuesIn kept
   unfolding valuesIn
@@ -233,18 +241,17 @@ module _ (t u : Terms) (j : Header) (kept others first rest : List (List ℕ)) (
   -- so all of them are taken
   pub takeable : Good kept → Good others → Room j (countsIn all) → Takeable terms first rest
   takeable g o r = record {
-    indexed = λ s k. among-index kept s (permuted-member p s k) .1;
-    once = λ s i k e. ap (λ (v : (area month : ℕ) → ℕ). v (i .area) (i .month)) (first-values kept others first rest p q)
-        ∙ g .once s i (among-index kept s (permuted-member p s k) .0) e;
+    indexed = are-index kept first p;
+    once = set-once kept first p g;
     plain = λ s k. ⊎-elim (λ x. g .plain s (among-others kept s x .0)) (λ x. o .plain s (among-others others s x .0))
-        (among-both (otherLines kept) (otherLines others) s (permuted-member q s k));
+        (List·Memᴰ·append-cases (otherLines kept) (permuted-member q s k));
     no-index = λ s k. ⊎-elim (λ x. among-others kept s x .1) (λ x. among-others others s x .1)
-        (among-both (otherLines kept) (otherLines others) s (permuted-member q s k));
-    has = λ s k. rw (first-values kept others first rest p q) (⊎-elim
+        (List·Memᴰ·append-cases (otherLines kept) (permuted-member q s k));
+    has = λ s k. rw (first-values kept first p) (⊎-elim
         (λ x. settled-has (valuesIn kept) kept (g .settled) s (among-others kept s x .0))
         (λ x. alike-has (valuesIn others) (valuesIn kept) (lineContent (lineOf s)) (same-adjusted s)
         (settled-has (valuesIn others) others (o .settled) s (among-others others s x .0)))
-        (among-both (otherLines kept) (otherLines others) s (permuted-member q s k)));
+        (List·Memᴰ·append-cases (otherLines kept) (permuted-member q s k)));
     room = r;
   }
 
@@ -269,6 +276,23 @@ header-in-range j a b = rw (
   le-leb (j .held) 10000000000000 b,
 ) refl
 
+-- A book opened under the sheet of another, with the line of a header that is read back
+module _ (h : History) (x : IsOpened h) (j : Header) (e : headerOf (bytesOf (header j)) ≡ HeaderRead j) where
+  pub terms-with : termsOf (opened (sheetOf h) (bytesOf (header j))) ≡ under j (termsOf h .rates)
+  unfolding termsOf
+  terms-with =
+      let (r, f) = sheet-of h x in
+      ap (termsFor (sheetOf h)) e ∙ terms-read (sheetOf h) j (loading .test (sheetOf h) .1 r) ∙ ap (under j) (sym f)
+
+  -- its opening is not refused, whatever it is fed then
+  pub opens-with : (more : List (List ℕ)) → IsOpened (allFed (opened (sheetOf h) (bytesOf (header j))) more)
+  unfolding openingRefusal headerLine sheetOf
+  opens-with more =
+      let (r, f) = sheet-of h x in
+      let (a, b) = stays (opened (sheetOf h) (bytesOf (header j))) more in
+      ap₂ (λ (sheet line : List ℕ). opening sheet line .refusal) b a
+      ∙ ap (openingRefusal (sheetOf h)) e ∙ rw (loading .test (sheetOf h) .1 r) refl
+
 module _ (h k : History) (x : IsOpened h) (y : IsOpened k)
     (c : MayJoin (stateOf (termsOf h) (acceptedOf h)) (stateOf (termsOf k) (acceptedOf k))) where
   abbrev j : Header
@@ -282,19 +306,10 @@ module _ (h k : History) (x : IsOpened h) (y : IsOpened k)
 
   -- the one book opens under the added header and the same sheet
   terms-one : termsOf (opened (sheetOf h) (addedHeaderLine h k)) ≡ under j (termsOf h .rates)
-  unfolding termsOf
-  terms-one =
-      let (r, f) = sheet-of h x in
-      ap (termsFor (sheetOf h)) header-read ∙ terms-read (sheetOf h) j (loading .test (sheetOf h) .1 r) ∙ ap (under j) (sym f)
+  terms-one = terms-with h x j header-read
 
-  -- and its opening is not refused
   pub opens-one : (more : List (List ℕ)) → IsOpened (oneBook h k more)
-  unfolding openingRefusal headerLine sheetOf
-  opens-one more =
-      let (r, f) = sheet-of h x in
-      let (a, b) = stays (opened (sheetOf h) (addedHeaderLine h k)) more in
-      ap₂ (λ (sheet line : List ℕ). opening sheet line .refusal) b a
-      ∙ ap (openingRefusal (sheetOf h)) header-read ∙ rw (loading .test (sheetOf h) .1 r) refl
+  opens-one more = opens-with h x j header-read more
 
   module _ (first rest : List (List ℕ)) (p : List·Permᴰ first (indexLines (linesTaken h)))
       (q : List·Permᴰ rest (otherLines (linesTaken h) ++ otherLines (linesTaken k))) where

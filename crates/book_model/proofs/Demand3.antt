@@ -225,6 +225,11 @@ required-is t kept = rw (rounded-is (sumsOf t kept .rest) (rest-sum (basisOf t k
 regroup : (a b c d e f : List ℕ) → a ++ (b ++ c ++ d ++ e ++ f) ≡ (a ++ (b ++ c)) ++ d ++ (e ++ f)
 regroup a b c d e f = simp append-assoc
 
+-- a report begins as its first line, whatever follows it: with a parenthesis and an l
+pub begins : (f : Figures) (more : List ℕ) → (getD (reportText f) 1 0 ≡ 108) × (getD (reportText f ++ more) 1 0 ≡ 108)
+unfolding reportText
+begins f more = (refl, refl)
+
 -- the seven lines before `required`
 abbrev beforeRequired : Figures → List ℕ
 beforeRequired f = headText f ++ (valueLine "rest" (unsigned (f .rest)) ++ valueLine "oper" (unsigned (f .oper)))

@@ -1,30 +1,28 @@
 -- Joining over the definitions. Assumes nothing.
 use mathlib.Core.Path.{_≡_, refl, sym, _∙_, ap, ap₂, subst}
-use mathlib.Core.Bool.{Bool, true, false, true≢false, false≢true, _&&_, _||_}
-use mathlib.Core.List.{List, [], _∷_, _++_, List·Permᴰ, List·Permᴰ·nil, List·Permᴰ·cons}
+use mathlib.Core.Bool.{Bool, true, false, _&&_}
+use mathlib.Core.List.{List, _++_, Permᴰ·refl}
 use mathlib.Core.Logic.{_↔_}
 use Prim.Native.Nat.{ℕ, _+_, _*_, _≤_, _<_}
 use native.Mathlib.Omega.{arith}
-use lib.Dec.{eqb, leb, ltb}
+use lib.Dec.{eqb, ltb}
 use lib.ListN.{length, getD, List·getD-eq-default}
-use borrow.Author.Tests.{eqb-true, eqb-false, eq-eqb, ne-eqb, leb-true, le-leb, ltb-true, ltb-false}
-use Rattle.exact.specs.Choice.{pick}
+use borrow.Author.Tests.{eqb-true, eqb-false, leb-true, le-leb, ltb-true, ltb-false}
 use Rattle.line_forms.specs.declared.Header.{Header}
 use Rattle.line_forms.specs.Contents.{headerInRange, onAgedTable, inRange}
 use Rattle.line_forms.proofs.Bytes.{and-both, within-bounds}
 use Rattle.line_forms.proofs.HeaderCounts.{first-serves}
 use Rattle.figures.proofs.SumsLaws.{plus-bounded}
 use Rattle.book_model.specs.Accepted.{mostOther}
-use Rattle.book_model.specs.Calls.{State, Answer, emptyState, closing, closed, closingCells, closedCells, Sound}
+use Rattle.book_model.specs.Calls.{State, Answer, closing, closed, closingCells, closedCells, Sound}
 use Rattle.book_model.specs.Cells.{CellsBounded}
 use Rattle.book_model.specs.Demand1.{refusedState}
 use Rattle.book_model.specs.Demand2.{CountsReached}
 use Rattle.book_model.specs.GivenState.{stateGiven}
 use Rattle.book_model.specs.History.{History, termsOf, acceptedOf, linesTaken}
 use Rattle.book_model.specs.Joining.{joinedHeader, KeepsChoices, MayJoin, alike, manyUnscored, keepsChoices, sameFactors, sameIndex, mayJoin, places, addedCells}
-use Rattle.book_model.specs.Joining.{joinedState, joining, indexLines, otherLines, oneBook, standingInBoth, joined, LinesOfBoth, JoinedBooks, ClosedAlike}
+use Rattle.book_model.specs.Joining.{joinedState, joining, indexLines, otherLines, oneBook, standingInBoth, LinesOfBoth, JoinedBooks, ClosedAlike}
 use Rattle.book_model.specs.Joining.{JoiningAnswer, Joining}
-use Rattle.book_model.specs.Terms.{refusedTerms}
 use Rattle.book_model.proofs.AsOneBook.{header-in-range, state-given, opens-one, all-taken, one-book}
 use Rattle.book_model.proofs.ChargedAlike.{below, same-column, same-many}
 use Rattle.book_model.proofs.Feeding.{refused-sound, no-marks-sound}
@@ -233,12 +231,8 @@ module _ {h k : History} (j : JoinedBooks h k) where
         joins-is ∙ ap₂ joinedState (state-given h) (state-given k) ∙ one-book h k (j .first) (j .second) conditions first rest (l .index) (l .others)
         ∙ sym (state-given (oneBook h k (first ++ rest)))
 
-itself : (lines : List (List ℕ)) → List·Permᴰ lines lines
-itself [] = List·Permᴰ·nil
-itself (s ∷ lines) = List·Permᴰ·cons refl (itself lines)
-
 as-they-stand : (h k : History) → LinesOfBoth h k (indexLines (linesTaken h)) (otherLines (linesTaken h) ++ otherLines (linesTaken k))
-as-they-stand h k = record { index = itself _; others = itself _ }
+as-they-stand h k = record { index = Permᴰ·refl _; others = Permᴰ·refl _ }
 
 closed-alike : {s u : State} → s ≡ u → ClosedAlike s u
 closed-alike e = record {

@@ -1,5 +1,5 @@
 -- By computation. Assumes nothing.
-use mathlib.Core.Path.{_≡_, refl, _∙_}
+use mathlib.Core.Path.{_≡_, refl, _∙_, ap}
 use mathlib.Core.Bool.{Bool, true, false, _&&_, _||_}
 use mathlib.Core.List.{_++_}
 use Prim.Native.Nat.{ℕ, _+_, _*_}
@@ -23,10 +23,11 @@ use Rattle.figures.specs.Sums.{sumOf}
 use Rattle.report.specs.Decimal.{leading, digits, signed}
 use Rattle.book_report.specs.Report.{ratioLine, reportText}
 use Rattle.book_model.specs.Accepted.{mostOther, countsIn, refusalFor, accept}
-use Rattle.book_model.specs.Calls.{Answer, emptyState}
+use Rattle.book_model.specs.Calls.{State, Answer, stateAt, emptyState}
 use Rattle.book_model.specs.Demand3.{figuresFor, reportFor}
 use Rattle.book_model.specs.Exact.{exactAmount, exactShare, sumOver}
 use Rattle.book_model.specs.Examples.{workedHeader, workedLines}
+use Rattle.book_model.specs.Cells.{noCells}
 use Rattle.book_model.specs.History.{opened, allFed, termsOf, acceptedOf, linesTaken, sumsBy}
 use Rattle.book_model.specs.HouseIndex.{indexPlaces, noIndex}
 use Rattle.book_model.specs.Joining.{addedHeader, alike, manyUnscored, keepsChoices, sameFactors, sameIndex, mayJoin, joinedState, joining}
@@ -34,7 +35,9 @@ use Rattle.book_model.specs.Joining.{indexLines, otherLines, addedHeader
 use Rattle.book_model.specs.JoiningExamples.{having, counting, workedBook, workedTwice, JoiningExamples}
 use Rattle.book_model.specs.LineKinds.{contentKind, kindCounts}
 use Rattle.book_model.specs.Share.{share, assetShare, amountShare}
+use Rattle.book_model.specs.Marks.{noMarks}
 use Rattle.book_model.specs.Terms.{termsFor, refusedTerms}
+use Rattle.book_model.proofs.JoinedParts.{cells-none, joined-state}
 use Rattle.book_model.proofs.Places.{same-self}
 
 -- the column that serves, by its law
@@ -72,6 +75,13 @@ answer g h m n i j =
 held : (g h : Header) (m n i j r : ℕ) → pick (test g h (m + n + i)) 0 16 ≡ r → joining (having g m i) (having h n j) .refusal ≡ r
 held g h m n i j r e = answer g h m n i j ∙ e
 
+-- books without lines joined are one without lines
+none-joined : (g h : Header) → joining (having g 0 0) (having h 0 0) .refusal ≡ 0 → joining (having g 0 0) (having h 0 0) .state ≡ having (addedHeader g h) 0 0
+unfolding noCells
+none-joined g h z =
+    joined-state (having g 0 0) (having h 0 0) z
+    ∙ (λ i. stateAt (having (addedHeader g h) 0 0 .book) builtInRates (cells-none noCells refl i) noIndex noMarks)
+
 taken : linesTaken (allFed (opened builtInSheet workedHeader) workedLines) ≡ workedLines
 unfolding allWithin runOf same after isNumeral valueFrom headerInRange moneyInRange assetInRange amountInRange numberAt afterNumber afterNegative signedAt
     afterSigned placeOf afterWord headerHeld assetHeld plainHeld signedHeld amountHeld contentOf lineFor lineOf headerFor headerOf contentKind kindCounts
@@ -96,6 +106,10 @@ unfolding allWithin runOf same after isNumeral valueFrom headerInRange moneyInRa
     capitalOf ratioSize ratioOf figuresFor reportFor ratioLine reportText leading digits signed
 report-twice = refl
 
+other-first : joining (having (counting 19 1 0 0) 0 0) (having (counting 1 1 0 0) 0 0) .refusal ≡ 0
+unfolding headerInRange manyUnscored
+other-first = held (counting 19 1 0 0) (counting 1 1 0 0) 0 0 0 0 0 refl
+
 pub joining-examples : JoiningExamples
 unfolding headerInRange manyUnscored figuresOf bytesOf digits leading
 joining-examples = record {
@@ -116,6 +130,10 @@ joining-examples = record {
   first-rises = held (counting 20 1 0 0) (counting 19 1 0 0) 0 0 0 0 16 refl;
   none-unscored = held (counting 1 0 0 0) (counting 1 1 0 0) 0 0 0 0 0 refl;
   second-falls = held (counting 19 0 0 0) (counting 1 1 0 0) 0 0 0 0 16 refl;
+  one-way = held (counting 1 0 0 0) (counting 19 1 0 0) 0 0 0 0 16 refl;
+  other-first = other-first;
+  other-way = ap (λ (s : State). joining (having (counting 1 0 0 0) 0 0) s .refusal) (none-joined (counting 19 1 0 0) (counting 1 1 0 0) other-first)
+      ∙ held (counting 1 0 0 0) (counting 20 2 0 0) 0 0 0 0 0 refl;
   header-twice = header-twice;
   lines-twice = lines-twice;
   report-twice = report-twice;

@@ -2,8 +2,7 @@
 use mathlib.Core.Path.{_≡_, refl, sym, _∙_, ap, ap₂}
 use mathlib.Core.Bool.{Bool, true, false, false≢true, true≢false}
 use mathlib.Core.List.{List, [], _∷_, _++_, map, map-append, List·Memᴰ, List·Memᴰ·head, List·Memᴰ·tail, List·Memᴰ·not-nil, List·Permᴰ}
-use mathlib.Core.Logic.{_⊎_, inl, inr, ⊎-elim}
-use Prim.Native.Nat.{ℕ, _+_, _≤_}
+use Prim.Native.Nat.{ℕ, _+_}
 use native.Mathlib.Omega.{arith}
 use Rattle.exact.specs.Choice.{pick}
 use Rattle.line_forms.specs.declared.IndexValue.{IndexValue}
@@ -12,16 +11,13 @@ use Rattle.line_forms.specs.declared.Content.{Content}
 use Rattle.line_forms.specs.declared.Content.the-variants.{Index as index}
 use Rattle.line_forms.specs.Claims.{lineContent}
 use Rattle.line_forms.specs.Readings.{lineOf}
-use Rattle.figures.specs.declared.Counts.{Counts}
-use Rattle.figures.specs.declared.Sums.{Sums}
-use Rattle.figures.specs.Sums.{noSums, countsSum, plus, sumOf}
+use Rattle.figures.specs.Sums.{noSums, plus, sumOf}
 use Rattle.figures.proofs.SumsLaws.{sum-append as sums-appended, sum-permuted as sums-permuted, none-plus}
-use Rattle.book_model.specs.Accepted.{countsIn}
 use Rattle.book_model.specs.Cells.{ofLoan}
 use Rattle.book_model.specs.History.{sumsBy}
 use Rattle.book_model.specs.HouseIndex.{ofIndex}
 use Rattle.book_model.specs.Joining.{isIndexLine, indexLines, otherLines}
-use Rattle.book_model.specs.LineKinds.{sumBy, lineCounts}
+use Rattle.book_model.specs.LineKinds.{sumBy}
 use Rattle.book_model.specs.Share.{share}
 use Rattle.book_model.specs.Terms.{Basis}
 use Rattle.book_model.proofs.Demand3.{permuted-map}
@@ -129,6 +125,18 @@ among-index (r ∷ kept) s m = go (which r) m (among-index kept s)
     go (index-line i e) (List·Memᴰ·tail m) rest = let (k, x) = rest m in (List·Memᴰ·tail k, x)
     go (other-line n) m rest = let (k, x) = rest m in (List·Memᴰ·tail k, x)
 
+-- a list of index lines has no others
+pub no-others : (lines : List (List ℕ)) → ((s : List ℕ) → List·Memᴰ s lines → IsIndex s) → otherLines lines ≡ []
+unfolding otherLines
+no-others [] h = refl
+no-others (s ∷ lines) h = go (which s) (no-others lines (λ r m. h r (List·Memᴰ·tail m)))
+  where
+    go : {t : Bool} → Which s t → otherLines lines ≡ [] → pick t (otherLines lines) (s ∷ otherLines lines) ≡ []
+    go (index-line i e) r = r
+    go (other-line n) r =
+        let (i, e) = h s (List·Memᴰ·head refl) in
+        absurd (false≢true (sym (n Bool (λ i. true) false) ∙ ap (ofIndex (λ i. true) false) e))
+
 pub among-others : (kept : List (List ℕ)) (s : List ℕ) → List·Memᴰ s (otherLines kept) → List·Memᴰ s kept × ((i : IndexValue) → lineContent (lineOf s) ≡ index i → ⊥)
 unfolding otherLines
 among-others [] s m = absurd (List·Memᴰ·not-nil m)
@@ -142,8 +150,3 @@ among-others (r ∷ kept) s m = go (which r) m (among-others kept s)
       λ i c. true≢false (sym (ap (ofIndex (λ x. true) false) (sym (ap (λ (x : List ℕ). lineContent (lineOf x)) f) ∙ c)) ∙ n Bool (λ x. true) false),
     )
     go (other-line n) (List·Memᴰ·tail m) rest = let (k, x) = rest m in (List·Memᴰ·tail k, x)
-
-pub among-both : (xs ys : List (List ℕ)) (s : List ℕ) → List·Memᴰ s (xs ++ ys) → List·Memᴰ s xs ⊎ List·Memᴰ s ys
-among-both [] ys s m = inr m
-among-both (x ∷ xs) ys s (List·Memᴰ·head e) = inl (List·Memᴰ·head e)
-among-both (x ∷ xs) ys s (List·Memᴰ·tail m) = ⊎-elim (λ k. inl (List·Memᴰ·tail k)) inr (among-both xs ys s m)

@@ -78,6 +78,10 @@ pub record JoiningExamples : Type 0 where
   pub first-rises : joins (counting 20 1 0 0) (counting 19 1 0 0) ≡ 16
   pub none-unscored : joins (counting 1 0 0 0) (counting 1 1 0 0) ≡ 0
   pub second-falls : joins (counting 19 0 0 0) (counting 1 1 0 0) ≡ 16
+  -- L9: one grouping of three may be refused where the other is not. 0 of 1, 1 of 19 and 1 of 1 loans have no score: 1 of 19 is above 5%, 1 of 20 is not.
+  pub one-way : joins (counting 1 0 0 0) (counting 19 1 0 0) ≡ 16
+  pub other-first : joins (counting 19 1 0 0) (counting 1 1 0 0) ≡ 0
+  pub other-way : joining (having (counting 1 0 0 0) 0 0) (joining (having (counting 19 1 0 0) 0 0) (having (counting 1 1 0 0) 0 0) .state) .refusal ≡ 0
   -- the report of the one book that it counts as: rest, oper and ratio are reckoned anew
   pub header-twice : addedHeaderLine workedBook workedBook ≡ workedHeader
   pub lines-twice : standingInBoth workedBook workedBook ≡ workedLines ++ workedLines

@@ -13,6 +13,7 @@ pub mod History
 pub mod HouseIndex
 pub mod Joining
 pub mod JoiningExamples
+pub mod JoiningLaws
 pub mod LineKinds
 pub mod LineNumbers
 pub mod LoanTable

@@ -11,6 +11,7 @@ use Rattle.report.specs.Line.{Written}
 use Rattle.book_model.specs.declared.Book.{Book}
 use Rattle.book_model.specs.Calls.{State, stateAt, Sound}
 use Rattle.book_model.specs.Joining.{joining}
+use Rattle.book_model.specs.JoiningLaws.{withoutMarks}
 use Rattle.book_model.specs.Marks.{noMarks}
 use Rattle.book_model.proofs.Joining.{joining-holds}
 use Rattle.printing.specs.AtEnd.{printedAtEnd, printedWith}
@@ -18,9 +19,9 @@ use Rattle.driver.specs.declared.Progress.{Progress}
 use Rattle.driver.specs.Printed.{printedFor}
 use Rattle.driver.specs.Reading.{Stage, stageAt}
 use Rattle.driver.proofs.Runs.{written-within}
-use Rattle.regions.specs.Regions.{regionOf, reports, printedState, goesOn, stopsWith, joinedFrom, printedRegions}
+use Rattle.regions.specs.Regions.{regionOf, reports, goesOn, stopsWith, joinedFrom}
 use Rattle.regions.specs.NextFile.{NextFile}
-use Rattle.regions.proofs.NextFile.{Enough, parts, joined-enough, goes-parts, one-joined, one-stops, first-joined, first-stops, dropped, first-dropped, file-dropped}
+use Rattle.regions.proofs.NextFile.{Enough, parts, joined-enough, goes-parts, one-joined, one-stops, first-joined, first-stops, first-dropped, file-dropped}
 use Rattle.capital.specs.declared.Output.{Output}
 use Rattle.capital.specs.declared.Step.{Step}
 use Rattle.capital.specs.declared.Words.{Words}
@@ -41,12 +42,12 @@ pub next-read : (asked : Bool) (sheet : List ℕ) (s : State) (k : ℕ) (p : Pro
     stageAt p sheet rates cells index marks ≡ regionOf sheet input → Sound s → Sound (stateAt (p .book) rates cells index marks) → {done : Bool} {told : ℕ}
     {b : Book} {after : State} {old new : List ℕ} → after .book ≡ b →
     NextFile asked s k (stageAt p [] rates cells index noMarks) done told after old new →
-    NextRead asked sheet s k (record { book = b; count = told; done = done; failed = false }) (dropped after) old new
+    NextRead asked sheet s k (record { book = b; count = told; done = done; failed = false }) (withoutMarks after) old new
 next-read asked sheet s k p {rates} {cells} {index} {marks} input e x y {done} {told} {b} {after} {old} {new} f n =
     let t : Stage = stageAt p sheet rates cells index marks in
-    let m : NextFile asked s k t done told (dropped after) old new = file-dropped asked s k p sheet n in
+    let m : NextFile asked s k t done told (withoutMarks after) old new = file-dropped asked s k p sheet n in
     record {
-      reads = λ z. (input, subst (λ (q : Stage). NextFile asked s k q done told (dropped after) old new) e m);
+      reads = λ z. (input, subst (λ (q : Stage). NextFile asked s k q done told (withoutMarks after) old new) e m);
       sound = λ z. subst Sound (sym (m .goes-on z .1)) (joining-holds .sound s (t .state) x y);
       enough = λ z few.
           let (g, a, l) = m .goes-on z in

@@ -1,20 +1,24 @@
 -- Joining of books that calls gave. Assumes nothing.
-use mathlib.Core.Path.{_≡_, refl, sym, _∙_, ap, ap₂}
-use mathlib.Core.List.{List, [], _∷_, _++_}
-use mathlib.Core.Logic.{_↔_}
+use mathlib.Core.Path.{_≡_, refl, sym, _∙_, ap, ap₂, subst}
+use mathlib.Core.List.{List, [], _∷_, _++_, List·Memᴰ·eq-of-singleton, List·Memᴰ·append-cases, List·Permᴰ}
+use mathlib.Core.Logic.{_↔_, _⊎_, ⊎-elim}
 use Prim.Native.Nat.{ℕ}
 use native.Mathlib.Omega.{arith}
 use lib.ListN.{length, getD, drop}
 use Rattle.loan_charge.specs.CreditFactor.{ratesOf}
 use Rattle.book_model.specs.declared.Closed.{Closed}
-use Rattle.book_model.specs.Calls.{State, Answer, termsIn, closing, closed, closingCells, closedCells}
+use Rattle.book_model.specs.Calls.{State, Answer, Sound, termsIn, closing, closed, closingCells, closedCells}
 use Rattle.book_model.specs.Demand2.{CountsReached}
-use Rattle.book_model.specs.History.{History, sheetOf, termsOf}
+use Rattle.book_model.specs.GivenState.{stateGiven}
+use Rattle.book_model.specs.History.{History, sheetOf, termsOf, acceptedOf}
 use Rattle.book_model.specs.Joining.{addedHeader, SameFactors, joinedState, joining, oneBook, joined, LinesOfBoth, JoinedBooks}
+use Rattle.book_model.specs.JoiningLaws.{joinedTo, ChangesNothing, OnlyIndexLines, Grouping, alone as one-alone, together as both-together, AllSound}
+use Rattle.book_model.specs.Marks.{noMarks}
 use Rattle.book_model.specs.Terms.{under}
 use Rattle.book_model.proofs.Joining.{joining-holds}
+use Rattle.book_model.proofs.JoiningLaws.{joining-laws}
 use Rattle.histories.specs.Given.{CloseCall, CellsCall, JoinCall, Given, by-joining}
-use Rattle.histories.specs.Joinings.{JoinedCall, CallsJoining}
+use Rattle.histories.specs.Joinings.{JoinedCall, CallsJoining, GroupedCalls, alone, together, CallsJoiningLaws}
 use Rattle.histories.proofs.Demands.{joined-by, given-opened, joined-books, given, sound, under-sheet, closed-by, cells-by}
 
 -- a joining that was not refused of books that calls gave, by their histories
@@ -86,4 +90,61 @@ calls-joining = record {
   as-one-book = λ j l o. one-book j l o;
   closes = λ j l o x y. closes-alike (one-book j l o) x y;
   closes-cells = λ j l o x y. cells-alike (one-book j l o) x y;
+}
+
+-- Joining in any grouping
+
+number : {a b : Answer} → a ≡ b → a .refusal ≡ b .refusal
+number e = ap (λ (r : Answer). r .refusal) e
+
+-- a book that changes nothing, by the calls that gave it
+changes-nothing : {h k : History} {s z : State} → Given h s → Given k z → OnlyIndexLines h k → ChangesNothing s z
+changes-nothing {h} {k} {s} {z} g f n =
+    let (p, o) = given-opened g in
+    let (q, e) = given-opened f in
+    subst (λ (x : State). ChangesNothing x z) (sym p) (subst (ChangesNothing (stateGiven h)) (sym q) (joining-laws .neutral-lines o e n))
+
+-- from either side
+either-side : {s z : State} {a b : Answer} → (joining s z ≡ b) × (joining z s ≡ b) → JoinCall s z a ⊎ JoinCall z s a → a ≡ b
+either-side (x, y) c = ⊎-elim (λ d. joined-by d ∙ x) (λ d. joined-by d ∙ y) c
+
+neutral : {h k : History} {s z : State} → Given h s → Given k z → OnlyIndexLines h k → acceptedOf h .notes ≡ [] → {a : Answer} →
+    JoinCall s z a ⊎ JoinCall z s a → a ≡ joinedTo s
+neutral {h} {k} {s} {z} g f n m c =
+    let e : s .marks ≡ noMarks = ap (λ (x : State). x .marks) (given-opened g .0) ∙ joining-laws .unmarked h m in
+    either-side (joining-laws .neutral s z (sound g) (sound f) e (changes-nothing g f n)) c
+
+grouped : {s u v : State} {su suv uv both : Answer} → JoinCall s u su → su .refusal ≡ 0 → JoinCall (su .state) v suv → suv .refusal ≡ 0 →
+    JoinCall u v uv → uv .refusal ≡ 0 → JoinCall s (uv .state) both → both .refusal ≡ 0 → suv ≡ both
+grouped {s} {u} {v} {su} {suv} {uv} {both} c z d y f x i w =
+    let a : su ≡ joining s u = joined-by c in
+    let b : uv ≡ joining u v = joined-by f in
+    let p : suv ≡ joining (joining s u .state) v = joined-by d ∙ ap (λ (r : Answer). joining (r .state) v) a in
+    let q : both ≡ joining s (joining u v .state) = joined-by i ∙ ap (λ (r : Answer). joining s (r .state)) b in
+    p ∙ joining-laws .grouped s u v (sym (number a) ∙ z) (sym (number p) ∙ y) (sym (number b) ∙ x) (sym (number q) ∙ w) ∙ sym q
+
+-- the same way over the definitions, of sound books
+all-sound : {xs : List State} {s : State} → GroupedCalls xs s → AllSound xs
+all-sound (alone {h} {s} g) u m = subst Sound (sym (List·Memᴰ·eq-of-singleton m)) (sound g)
+all-sound (together {xs} {ys} g f c z) u m = ⊎-elim (λ k. all-sound g u k) (λ k. all-sound f u k) (List·Memᴰ·append-cases xs m)
+
+grouping : {xs : List State} {s : State} → GroupedCalls xs s → Grouping xs s
+grouping (alone {h} {s} g) = one-alone s
+grouping (together {xs} {ys} {s} {u} g f {a} c z) =
+    subst (λ (r : Answer). Grouping (xs ++ ys) (r .state)) (sym (joined-by c)) (both-together (grouping g) (grouping f) (sym (number (joined-by c)) ∙ z))
+
+any-grouping : {xs ys : List State} {s u : State} → GroupedCalls xs s → GroupedCalls ys u → List·Permᴰ xs ys → s ≡ u
+any-grouping g f p = joining-laws .any-grouping (all-sound g) p (grouping g) (grouping f)
+
+pub calls-joining-laws : CallsJoiningLaws
+calls-joining-laws = record {
+  commutes = λ {h} {k} {s} {u} g f c d. joined-by c ∙ joining-laws .commutes s u (sound g) (sound f) ∙ sym (joined-by d);
+  neutral = neutral;
+  neutral-marked = λ {h} {k} {s} {z} g f n c. either-side (joining-laws .neutral-marked s z (sound g) (sound f) (changes-nothing g f n)) c;
+  neutral-made = λ g p. joining-laws .neutral-made (given-opened g .1) p;
+  grouped = grouped;
+  any-grouping = any-grouping;
+  closes = λ g f p x y. closes-alike (any-grouping g f p) x y;
+  closes-cells = λ g f p x y. cells-alike (any-grouping g f p) x y;
+  unscored-first = λ before u after g p o f c. number (joined-by c) ∙ joining-laws .unscored-first before u after (all-sound g) (grouping g) p o (grouping f);
 }

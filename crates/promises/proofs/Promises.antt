@@ -23,12 +23,13 @@ use Rattle.book_model.proofs.AdjustedValues.{adjusted-values}
 use Rattle.book_model.proofs.FreshScores.{fresh-scores}
 use Rattle.book_model.proofs.Standing.{standing}
 use Rattle.book_model.proofs.Joining.{joining-holds}
+use Rattle.book_model.proofs.JoiningLaws.{joining-laws}
 use Rattle.book_model.proofs.JoiningExamples.{joining-examples}
 use Rattle.book_model.proofs.LineNumbers.{line-numbers}
 use Rattle.book_model.proofs.Examples.{twelve}
 use Rattle.histories.proofs.Demands.{calls-demand1, calls-demand2, calls-demand3, calls-loan-table, calls-own-factors, calls-adjusted-values}
 use Rattle.histories.proofs.Demands.{calls-fresh-scores, calls-standing, calls-asked}
-use Rattle.histories.proofs.Joinings.{calls-joining}
+use Rattle.histories.proofs.Joinings.{calls-joining, calls-joining-laws}
 use Rattle.driver.proofs.InputLines.{input-lines}
 use Rattle.driver.proofs.Program as Driver
 use Rattle.regions.proofs.Regions as Regions
@@ -48,6 +49,7 @@ promises = record {
     fresh-scores = calls-fresh-scores;
     standing = calls-standing;
     joining = calls-joining;
+    joining-laws = calls-joining-laws;
     asked = calls-asked;
   };
   definitions = record {
@@ -60,6 +62,7 @@ promises = record {
     fresh-scores = fresh-scores;
     standing = standing;
     joining = joining-holds;
+    joining-laws = joining-laws;
     line-numbers = line-numbers;
   };
   layers = record {

@@ -28,11 +28,12 @@ use Rattle.book_model.specs.FreshScores.{FreshScores}
 use Rattle.book_model.specs.Standing.{Standing}
 use Rattle.book_model.specs.Joining.{Joining}
 use Rattle.book_model.specs.JoiningExamples.{JoiningExamples}
+use Rattle.book_model.specs.JoiningLaws.{JoiningLaws}
 use Rattle.book_model.specs.LineNumbers.{LineNumbers}
 use Rattle.book_model.specs.Examples.{TwelveExamples}
 use Rattle.histories.specs.Demands.{CallsDemand1, CallsDemand2, CallsDemand3, CallsLoanTable, CallsOwnFactors, CallsAdjustedValues}
 use Rattle.histories.specs.Demands.{CallsFreshScores, CallsStanding}
-use Rattle.histories.specs.Joinings.{CallsJoining}
+use Rattle.histories.specs.Joinings.{CallsJoining, CallsJoiningLaws}
 use Rattle.histories.specs.Asked.{CallsAsked}
 use Rattle.driver.specs.InputLines.{InputLines}
 use Rattle.driver.specs.Program.{Program}
@@ -59,6 +60,8 @@ pub record Calls : Type 0 where
   pub standing : CallsStanding
   -- 02, L8: two books joined, as one book fed the lines still standing in both, or 16
   pub joining : CallsJoining
+  -- 02, L9: either order and any grouping that succeed give the same book; a book with a zero header and no lines but index lines changes nothing
+  pub joining-laws : CallsJoiningLaws
   -- what a call asks is met by every state that the calls gave, so that each may follow each
   pub asked : CallsAsked
 
@@ -77,6 +80,7 @@ pub record Definitions : Type 0 where
   pub fresh-scores : FreshScores
   pub standing : Standing
   pub joining : Joining
+  pub joining-laws : JoiningLaws
   -- equity, aoci, b and c by their lines; what a loan is charged by
   pub line-numbers : LineNumbers
 
@@ -120,13 +124,13 @@ pub record Examples : Type 0 where
   pub refusal : RefusalText
   pub reports : ReportTexts
   pub cells : CellTexts
-  -- 02, L8: what is added, each condition at its limit and beyond, 01's worked report joined with itself
+  -- 02, L8: what is added, each condition at its limit and beyond, 01's worked report joined with itself; L9: one grouping refused, the other not
   pub joining : JoiningExamples
 
 pub record Promises : Type 0 where
   -- what is printed of every input under every sheet
   pub program : Program
-  -- 02, L8: what is printed of files that are books, joined from the first on
+  -- 02, L8: what is printed of files that are books, joined from the first on; L9: the same bytes in every order that joins them
   pub regions : Regions
   pub calls : Calls
   pub definitions : Definitions

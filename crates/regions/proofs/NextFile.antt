@@ -1,6 +1,6 @@
 -- What one more file makes of a book. Assumes nothing.
 use mathlib.Core.Path.{_≡_, refl, sym, _∙_, ap, subst}
-use mathlib.Core.Bool.{Bool, true, false, true≢false, false≢true, _&&_}
+use mathlib.Core.Bool.{Bool, true, false, true≢false, false≢true}
 use mathlib.Core.List.{List, [], _∷_}
 use Prim.Native.Nat.{ℕ, _+_}
 use lib.Dec.{eqb}
@@ -11,6 +11,7 @@ use Rattle.report.specs.Line.{refusalLine, Written}
 use Rattle.book_model.specs.declared.Joined.{Joined}
 use Rattle.book_model.specs.Calls.{State, Answer, stateAt, emptyState, tooFew, Sound}
 use Rattle.book_model.specs.Joining.{joinedHeader, mayJoin, joinedState, joining, joinedOf}
+use Rattle.book_model.specs.JoiningLaws.{withoutMarks}
 use Rattle.book_model.specs.Marks.{noMarks}
 use Rattle.book_model.specs.Terms.{refusedTerms}
 use Rattle.book_model.proofs.Joining.{joining-holds}
@@ -134,20 +135,18 @@ pub left-by : (a b : State) {r : Joined} {rates cells index : List ℕ} {marks :
 left-by a b e f g h m = λ i. stateAt (e i .book) (f i) (g i) (h i) (m i)
 
 -- Marks are looked at by no joining, and none gives any.
-abbrev pub dropped : State → State
-dropped s = stateAt (s .book) (s .rates) (s .cells) (s .index) noMarks
 
-pub joined-dropped : (a b : State) → dropped (joining a b .state) ≡ joining a b .state
+pub joined-dropped : (a b : State) → withoutMarks (joining a b .state) ≡ joining a b .state
 unfolding joining
 joined-dropped a b = go (mayJoin a b)
   where
-    go : (t : Bool) → dropped (pick {A = Answer} t (record { refusal = 0; state = joinedState a b }) (record { refusal = 16; state = emptyState refusedTerms }) .state) ≡
+    go : (t : Bool) → withoutMarks (pick {A = Answer} t (record { refusal = 0; state = joinedState a b }) (record { refusal = 16; state = emptyState refusedTerms }) .state) ≡
         pick {A = Answer} t (record { refusal = 0; state = joinedState a b }) (record { refusal = 16; state = emptyState refusedTerms }) .state
     go true = refl
     go false = refl
 
 pub first-dropped : (asked : Bool) (sheet : List ℕ) (s : State) (k : ℕ) (inputs : List (List ℕ)) →
-    joinedFrom asked sheet s k inputs ≡ joinedFrom asked sheet (dropped s) k inputs
+    joinedFrom asked sheet s k inputs ≡ joinedFrom asked sheet (withoutMarks s) k inputs
 unfolding joinedFrom goesOn joining mayJoin
 first-dropped asked sheet s k [] = refl
 first-dropped asked sheet s k (input ∷ inputs) = refl
@@ -155,9 +154,9 @@ first-dropped asked sheet s k (input ∷ inputs) = refl
 -- nor the sheet, once its book is opened
 pub file-dropped : (asked : Bool) (s : State) (k : ℕ) (p : Progress) (sheet : List ℕ) {rates cells index : List ℕ} {marks : List (List ℕ)} {done : Bool}
     {told : ℕ} {after : State} {old new : List ℕ} → NextFile asked s k (stageAt p [] rates cells index noMarks) done told after old new →
-    NextFile asked s k (stageAt p sheet rates cells index marks) done told (dropped after) old new
+    NextFile asked s k (stageAt p sheet rates cells index marks) done told (withoutMarks after) old new
 unfolding goesOn stopsWith reports joining mayJoin
 file-dropped asked s k p sheet {rates} {cells} {index} n = record {
-  goes-on = λ e. let (g, a, l) = n .goes-on e in (g, ap dropped a ∙ joined-dropped s (stateAt (p .book) rates cells index noMarks), l);
+  goes-on = λ e. let (g, a, l) = n .goes-on e in (g, ap withoutMarks a ∙ joined-dropped s (stateAt (p .book) rates cells index noMarks), l);
   stops = λ e. n .stops e;
 }

@@ -6,22 +6,24 @@ use mathlib.Core.Logic.{_↔_}
 use Prim.Native.Nat.{ℕ, _+_, _≤_}
 use native.Mathlib.Omega.{arith}
 use lib.Dec.{eqb}
-use lib.ListN.{length}
+use lib.ListN.{length, getD}
 use borrow.Author.Tests.{eq-eqb, eqb-true, eqb-false}
 use Rattle.exact.specs.Choice.{pick}
 use Rattle.exact.specs.Decimal.{leading, digits}
 use Rattle.exact.specs.Text.{text}
 use Rattle.figures.specs.declared.Counts.{Counts}
+use Rattle.figures.specs.Figures.{figuresOf}
 use Rattle.book_model.specs.Accepted.{Accepted, countsIn, refusalOf}
-use Rattle.book_model.specs.Calls.{State, Answer, opening, feeding, tooFew, Sound}
+use Rattle.book_model.specs.Calls.{State, Answer, opening, feeding, tooFew, cellsTextOf, Sound}
 use Rattle.book_model.specs.GivenState.{stateGiven, IsOpened}
 use Rattle.book_model.specs.History.{History, opened, fed, allFed, headerLine, sheetOf, termsOf, acceptedOf, linesTaken}
 use Rattle.book_model.specs.Joining.{joining, addedHeaderLine, joined, JoinedBooks, LinesOfBoth}
 use Rattle.book_model.specs.Terms.{Terms}
 use Rattle.book_model.proofs.AsOneBook.{state-given, opens-one, all-in-turn}
-use Rattle.book_model.proofs.Demand3.{one-more}
+use Rattle.book_model.proofs.Demand3.{one-more, begins}
 use Rattle.book_model.proofs.FreshScores.{taken-sound, stays}
 use Rattle.book_model.proofs.Joining.{conditions, joining-holds}
+use Rattle.book_model.proofs.JoiningLaws.{joining-laws}
 use Rattle.book_model.proofs.Standing.{line-fed}
 use Rattle.book_model.proofs.TakenWhole.{unmarked, InTurn, taken-in-turn, none-taken}
 use Rattle.book_model.proofs.Steps.{counts}
@@ -31,8 +33,9 @@ use Rattle.driver.specs.Printed.{linesOf, printedFeeding, printedLines, printed
 use Rattle.driver.specs.Reading.{Stage, atStart, after, withLine}
 use Rattle.driver.proofs.Law.{withLines, bytes-lines, whole}
 use Rattle.driver.proofs.LineLaws.{line-refused, line-opens, line-fed as line-read}
-use Rattle.regions.specs.Regions.{regionOf, reports, printedState, goesOn, joinedFrom, printedRegions, ReachesCounts, RegionHistory, FilesOutcome, all-joined}
+use Rattle.regions.specs.Regions.{regionOf, reports, printedState, goesOn, joinedFrom, printedRegions, IsRefusal, ReachesCounts, RegionHistory, FilesOutcome, all-joined}
 use Rattle.regions.specs.Regions.{no-report, not-joined, joins, Regions}
+use Rattle.regions.proofs.FileOrder.{neutral-later, neutral-first, any-order, unscored-first}
 use Rattle.regions.proofs.NextFile.{Enough, parts, reported, refused-alone, joined-enough, both-go, one-joined, stops-16, stops-alone, first-joined, first-stops}
 
 -- no count of a book is short: by its lines
@@ -155,8 +158,17 @@ one asked sheet input = go (reports (regionOf sheet input)) refl
     go true e = sym (reported asked (regionOf sheet input) e) ∙ whole asked sheet input
     go false e = whole asked sheet input
 
+-- a report begins otherwise
+no-refusal : (asked : Bool) (s : State) → IsRefusal (printedState asked s) → ⊥
+no-refusal true s (n, l, e) =
+    omega (arith, ap (λ (out : List ℕ). getD out 1 0) e, begins (figuresOf (s .book .header .held) (s .book .sums)) (cellsTextOf (s .cells)) .1)
+no-refusal false s (n, l, e) = omega (arith, ap (λ (out : List ℕ). getD out 1 0) e, begins (figuresOf (s .book .header .held) (s .book .sums)) [] .0)
+
 given-sound : (h : History) → Sound (stateGiven h)
 given-sound h = subst Sound (sym (state-given h)) (taken-sound h)
+
+region-sound : (sheet input : List ℕ) → reports (regionOf sheet input) ≡ true → Sound (regionOf sheet input .state)
+region-sound sheet input e = let (h, x) = history-of sheet input e in subst Sound (sym (x .state)) (given-sound h)
 
 -- the files after the first
 on-files : (asked : Bool) (sheet : List ℕ) (h : History) → IsOpened h → Enough (stateGiven h) → (k : ℕ) (inputs : List (List ℕ)) →
@@ -258,8 +270,14 @@ regions = record {
   refusal = λ asked sheet input e.
       let (n, l, f) = refused-alone asked (regionOf sheet input) e in
       (n, l, sym (whole asked sheet input) ∙ f);
+  report = no-refusal;
   files = files;
   second = second;
   third = third;
   as-one-file = as-one-file;
+  neutral = λ asked sheet one z before after r c n. neutral-later asked sheet (region-sound sheet) z r one c before after n;
+  neutral-first = λ asked sheet one z ones r c n. neutral-first asked sheet (region-sound sheet) z r one c ones n;
+  neutral-lines = λ sheet one z x y n. rw (x .state, y .state) (joining-laws .neutral-lines (x .opened) (y .opened) n);
+  any-order = λ asked sheet one other ones others p n m. any-order asked sheet (region-sound sheet) one other ones others p n m;
+  unscored-first = λ asked sheet one other ones others p n o. unscored-first asked sheet (region-sound sheet) one other ones others p n o;
 }

@@ -1,8 +1,8 @@
--- 02, L8, in the words of the program: files that are whole books, joined from the first on, and what is printed of them. Proved in
--- proofs/Regions.antt.
+-- 02, L8 and L9, in the words of the program: files that are whole books, joined from the first on, and what is printed of them. Proved in
+-- proofs/Regions.antt and proofs/FileOrder.antt.
 use Prim.Native.Nat.{ℕ, _+_}
 use mathlib.Core.Bool.{Bool, true, false, _&&_}
-use mathlib.Core.List.{List, [], _∷_, _++_}
+use mathlib.Core.List.{List, [], _∷_, _++_, map, List·Permᴰ}
 use mathlib.Core.Path.{_≡_}
 use lib.Dec.{eqb}
 use Rattle.exact.specs.Choice.{pick}
@@ -14,6 +14,7 @@ use Rattle.book_model.specs.Demand2.{CountsReached}
 use Rattle.book_model.specs.History.{History, opened as openedWith, allFed, sheetOf, termsOf, linesTaken}
 use Rattle.book_model.specs.GivenState.{stateGiven, IsOpened}
 use Rattle.book_model.specs.Joining.{MayJoin, joining, addedHeaderLine, joined, JoinedBooks, LinesOfBoth}
+use Rattle.book_model.specs.JoiningLaws.{ChangesNothing, OnlyIndexLines, UnscoredFirst}
 use Rattle.printing.specs.AtEnd.{withTable}
 use Rattle.driver.specs.Printed.{linesOf, printed, printedFor, ended}
 use Rattle.driver.specs.Reading.{Stage, fromStart, withBytes}
@@ -51,6 +52,14 @@ unfoldable pub printedRegions : Bool → (sheet input : List ℕ) → (inputs : 
 printedRegions asked sheet input inputs =
     pick (reports (regionOf sheet input)) (joinedFrom asked sheet (regionOf sheet input .state) 2 inputs) (printedFor asked (regionOf sheet input))
 
+-- one line `(refused N L)` is printed
+abbrev pub IsRefusal : List ℕ → Type 0
+IsRefusal out = (n : ℕ) × (l : ℕ) × (out ≡ refusalLine n l)
+
+-- the books of files
+abbrev pub booksOf : (sheet : List ℕ) → List (List ℕ) → List State
+booksOf sheet inputs = map (λ input. regionOf sheet input .state) inputs
+
 -- no count of the header is short
 abbrev pub ReachesCounts : History → Type 0
 ReachesCounts h = CountsReached (termsOf h .header) (countsIn (linesTaken h))
@@ -85,9 +94,10 @@ pub record Regions : Type 0 where
   pub one : (asked : Bool) (sheet input : List ℕ) → printedRegions asked sheet input [] ≡ printed asked sheet input
   pub first-refused : (asked : Bool) (sheet input : List ℕ) (inputs : List (List ℕ)) → reports (regionOf sheet input) ≡ false →
       printedRegions asked sheet input inputs ≡ printed asked sheet input
-  -- Such a file prints a refusal alone: of every other a report is printed.
-  pub refusal : (asked : Bool) (sheet input : List ℕ) → reports (regionOf sheet input) ≡ false →
-      (n : ℕ) × (l : ℕ) × (printed asked sheet input ≡ refusalLine n l)
+  -- Such a file prints a refusal alone, of every other a report is printed,
+  pub refusal : (asked : Bool) (sheet input : List ℕ) → reports (regionOf sheet input) ≡ false → IsRefusal (printed asked sheet input)
+  -- and no report is a refusal.
+  pub report : (asked : Bool) (s : State) → IsRefusal (printedState asked s) → ⊥
   -- Else the first file's book is joined with the others in turn.
   pub files : (asked : Bool) (sheet input : List ℕ) (inputs : List (List ℕ)) → reports (regionOf sheet input) ≡ true →
       (h : History) × RegionHistory sheet input h × FilesOutcome asked sheet h 2 inputs (printedRegions asked sheet input inputs)
@@ -102,3 +112,22 @@ pub record Regions : Type 0 where
   -- standing in both, index lines once and first, in whatever order else.
   pub as-one-file : (asked : Bool) {h k : History} → JoinedBooks h k → ReachesCounts (joined h k) → {first rest : List (List ℕ)} → LinesOfBoth h k first rest →
       (input : List ℕ) → linesOf input ≡ addedHeaderLine h k ∷ (first ++ rest) → printed asked (sheetOf h) input ≡ printedState asked (stateGiven (joined h k))
+  -- L9: a file whose book changes nothing may stand anywhere among files that print no refusal,
+  pub neutral : (asked : Bool) (sheet one z : List ℕ) (before after : List (List ℕ)) → reports (regionOf sheet z) ≡ true →
+      ChangesNothing (regionOf sheet one .state) (regionOf sheet z .state) → (IsRefusal (printedRegions asked sheet one (before ++ after)) → ⊥) →
+      printedRegions asked sheet one (before ++ (z ∷ after)) ≡ printedRegions asked sheet one (before ++ after)
+  pub neutral-first : (asked : Bool) (sheet one z : List ℕ) (ones : List (List ℕ)) → reports (regionOf sheet z) ≡ true →
+      ChangesNothing (regionOf sheet one .state) (regionOf sheet z .state) → (IsRefusal (printedRegions asked sheet one ones) → ⊥) →
+      printedRegions asked sheet z (one ∷ ones) ≡ printedRegions asked sheet one ones
+  -- as one with a zero header and the same index values in which every line still standing is an index line.
+  pub neutral-lines : (sheet one z : List ℕ) {h k : History} → RegionHistory sheet one h → RegionHistory sheet z k → OnlyIndexLines h k →
+      ChangesNothing (regionOf sheet one .state) (regionOf sheet z .state)
+  -- Two orders of the same files that both print no refusal print the same bytes.
+  pub any-order : (asked : Bool) (sheet one other : List ℕ) (ones others : List (List ℕ)) → List·Permᴰ (one ∷ ones) (other ∷ others) →
+      (IsRefusal (printedRegions asked sheet one ones) → ⊥) → (IsRefusal (printedRegions asked sheet other others) → ⊥) →
+      printedRegions asked sheet one ones ≡ printedRegions asked sheet other others
+  -- Where any order prints no refusal, so does each in which files whose headers count unscored loans come before those whose headers count none,
+  -- and the same bytes.
+  pub unscored-first : (asked : Bool) (sheet one other : List ℕ) (ones others : List (List ℕ)) → List·Permᴰ (one ∷ ones) (other ∷ others) →
+      (IsRefusal (printedRegions asked sheet one ones) → ⊥) → UnscoredFirst (booksOf sheet (other ∷ others)) →
+      printedRegions asked sheet one ones ≡ printedRegions asked sheet other others

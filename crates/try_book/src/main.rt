@@ -2,7 +2,8 @@
 // `o` and a header line opens a book, `n` and a list of numbers makes them the sheet of factors under which `s` and a header line opens
 // one, `f` and a line feeds it, `c` and a number closes it into so many bytes of a buffer of 640, `t` and a number closes its table of
 // cells into so many of a buffer of 8,320. A closing prints the whole buffer, in which every byte was `.` before. `k` keeps a copy of the
-// book, that of a refused opening at first, and answers nothing; `j` joins the copy kept and the book, which becomes what joining gave.
+// book, that of a refused opening at first, and answers nothing; `x` exchanges the book and the copy kept, which has no marks, and answers
+// nothing; `j` joins the copy kept and the book, which becomes what joining gave.
 ghost use mathlib.Core.Path.{_≡_};
 ghost use Prim.Native.Nat.{_≤_, _<_};
 ghost use lib.ListN.{length};
@@ -17,7 +18,7 @@ use marks::Marks;
 use sheet_file::Room;
 
 // The calls are read at once, at most so many bytes.
-const INPUT: usize = 196608;
+const INPUT: usize = 327680;
 
 // The buffers of the two closings.
 const REPORT: usize = 640;
@@ -201,6 +202,37 @@ fn keep(
     *kept_index = values;
 }
 
+// Exchanges the tables of the book and those of the copy, which has no marks.
+fn exchange(
+    rates: &mut Rates,
+    cells: &mut Cells,
+    index: &mut Index,
+    marks: &mut Marks,
+    kept_rates: &mut Rates,
+    kept_cells: &mut Cells,
+    kept_index: &mut Index,
+)
+    ensures { λ _. ⌜ (now («kept_rates» .exit) ≡ now (rates .entry)) × (now («kept_cells» .exit) ≡ now (cells .entry))
+        × (now («kept_index» .exit) ≡ now (index .entry)) ⌝ }
+    ensures { λ _. ⌜ (now (rates .exit) ≡ now («kept_rates» .entry)) × (now (cells .exit) ≡ now («kept_cells» .entry))
+        × (now (index .exit) ≡ now («kept_index» .entry)) ⌝ }
+    ensures { λ _. ⌜ now (marks .exit) ≡ noMarks ⌝ }
+{
+    let factors = *rates;
+    let kept_factors = *kept_rates;
+    *rates = kept_factors;
+    *kept_rates = factors;
+    let sums = *cells;
+    let kept_sums = *kept_cells;
+    *cells = kept_sums;
+    *kept_cells = sums;
+    let values = *index;
+    let kept_values = *kept_index;
+    *index = kept_values;
+    *kept_index = values;
+    marks::clear(marks);
+}
+
 // Joins the copy kept and the book, whose tables become those of what joining gave. They are made in a set of their own, of ones before, so that
 // what is not written shows.
 fn join(
@@ -274,6 +306,21 @@ fn call_books(
         keep(rates, cells, index, kept_rates, kept_cells, kept_index);
         return Books {
             b: before,
+            kept: before,
+        };
+    }
+    if kind == b'x' {
+        exchange(
+            rates,
+            cells,
+            index,
+            marks,
+            kept_rates,
+            kept_cells,
+            kept_index,
+        );
+        return Books {
+            b: kept,
             kept: before,
         };
     }
