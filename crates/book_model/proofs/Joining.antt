@@ -126,7 +126,7 @@ pub refused-when : (a b : State) → mayJoin a b ≡ false → joining a b ≡ r
 unfolding joining
 refused-when a b e = rw e refl
 
-number : {a b : Answer} → a ≡ b → a .refusal ≡ b .refusal
+pub number : {a b : Answer} → a ≡ b → a .refusal ≡ b .refusal
 number e = ap (λ (x : Answer). x .refusal) e
 
 pub test-zero : (a b : State) → joining a b .refusal ≡ 0 → mayJoin a b ≡ true

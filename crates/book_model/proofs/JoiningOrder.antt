@@ -7,13 +7,13 @@ use Prim.Native.Nat.{ℕ, _+_, _*_, _≤_, _<_}
 use native.Mathlib.Omega.{arith}
 use native.Mathlib.Decide.{decLe}
 use Rattle.line_forms.specs.declared.Header.{Header}
-use Rattle.book_model.specs.Calls.{State, Answer, Sound}
+use Rattle.book_model.specs.Calls.{State, Sound}
 use Rattle.book_model.specs.Joining.{joinedHeader, KeepsChoices, MayJoin, joinedState, joining}
 use Rattle.book_model.specs.JoiningLaws.{Grouping, alone, together, AllSound, UnscoredFirst}
 use Rattle.book_model.proofs.AsOneBook.{permuted-member}
 use Rattle.book_model.proofs.Groupings.{booksSum, sum-both, sum-permuted, group-sound, group-agrees, part-agrees}
 use Rattle.book_model.proofs.JoinedParts.{keeps-own, joined-state}
-use Rattle.book_model.proofs.Joining.{may-forth, may-back, test-zero, joined-when}
+use Rattle.book_model.proofs.Joining.{number, may-forth, may-back, test-zero, joined-when}
 
 -- Numbers that joining adds
 
@@ -258,4 +258,4 @@ module _ (before : List State) (u : State) (after : List State) {xs : List State
   pub unscored-first : joining s u .refusal ≡ 0
   unscored-first =
       let sound-s = group-sound (λ v m. h v (earlier v m)) f in
-      ap (λ (r : Answer). r .refusal) (joined-when s u (may-back s u sound-s (h u own) may-next))
+      number (joined-when s u (may-back s u sound-s (h u own) may-next))

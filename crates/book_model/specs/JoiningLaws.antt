@@ -65,7 +65,7 @@ pub record JoiningLaws : Type 0 where
   -- Such books, and books without marks, by the lines that made them.
   pub neutral-lines : {h k : History} → IsOpened h → IsOpened k → OnlyIndexLines h k → ChangesNothing (stateGiven h) (stateGiven k)
   pub unmarked : (h : History) → acceptedOf h .notes ≡ [] → stateGiven h .marks ≡ noMarks
-  -- Every book has such a one: fed the index lines of the other, in whatever order, it takes them all.
+  -- Every book has such a one: fed the index lines of the other, in whatever order, it has their values and no other line.
   pub neutral-made : {h : History} {first : List (List ℕ)} → IsOpened h → List·Permᴰ first (indexLines (linesTaken h)) →
       IsOpened (indexAlone h first) × OnlyIndexLines h (indexAlone h first)
   -- "two groupings of three that both succeed give equal books", with marks or without. With `commutes` also (a c) b.

@@ -15,7 +15,7 @@ use Rattle.book_model.specs.Joining.{addedHeader, SameFactors, joinedState, joi
 use Rattle.book_model.specs.JoiningLaws.{joinedTo, ChangesNothing, OnlyIndexLines, Grouping, alone as one-alone, together as both-together, AllSound}
 use Rattle.book_model.specs.Marks.{noMarks}
 use Rattle.book_model.specs.Terms.{under}
-use Rattle.book_model.proofs.Joining.{joining-holds}
+use Rattle.book_model.proofs.Joining.{number, joining-holds}
 use Rattle.book_model.proofs.JoiningLaws.{joining-laws}
 use Rattle.histories.specs.Given.{CloseCall, CellsCall, JoinCall, Given, by-joining}
 use Rattle.histories.specs.Joinings.{JoinedCall, CallsJoining, GroupedCalls, alone, together, CallsJoiningLaws}
@@ -27,7 +27,7 @@ module _ {h k : History} {s u : State} {a : Answer} (j : JoinedCall h k s u a) w
   made = joined-by (j .call)
 
   after : a .state ≡ joinedState s u
-  after = ap (λ (r : Answer). r .state) made ∙ joining-holds .joins s u (sym (ap (λ (r : Answer). r .refusal) made) ∙ j .joins)
+  after = ap (λ (r : Answer). r .state) made ∙ joining-holds .joins s u (sym (number made) ∙ j .joins)
 
   books : JoinedBooks h k
   books = joined-books (given-opened (j .first)) (given-opened (j .second)) (j .call) (j .joins)
@@ -81,9 +81,9 @@ pub calls-joining : CallsJoining
 calls-joining = record {
   answers = λ {h} {k} {s} {u} g f {a} c. rw (joined-by c) (joining-holds .answers s u (sound g) (sound f));
   same-factors = same-factors;
-  refused = λ {s} {u} {a} c n. joined-by c ∙ joining-holds .refused s u (λ z. n (ap (λ (r : Answer). r .refusal) (joined-by c) ∙ z));
+  refused = λ {s} {u} {a} c n. joined-by c ∙ joining-holds .refused s u (λ z. n (number (joined-by c) ∙ z));
   joins = λ {s} {u} {a} c e.
-      ap (λ (r : Answer). r .state) (joined-by c) ∙ joining-holds .joins s u (sym (ap (λ (r : Answer). r .refusal) (joined-by c)) ∙ e);
+      ap (λ (r : Answer). r .state) (joined-by c) ∙ joining-holds .joins s u (sym (number (joined-by c)) ∙ e);
   reached = λ j. reached j;
   terms = λ j. terms j;
   taken = λ j. joining-holds .taken (books j);
@@ -93,9 +93,6 @@ calls-joining = record {
 }
 
 -- Joining in any grouping
-
-number : {a b : Answer} → a ≡ b → a .refusal ≡ b .refusal
-number e = ap (λ (r : Answer). r .refusal) e
 
 -- a book that changes nothing, by the calls that gave it
 changes-nothing : {h k : History} {s z : State} → Given h s → Given k z → OnlyIndexLines h k → ChangesNothing s z

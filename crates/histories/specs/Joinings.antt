@@ -69,7 +69,7 @@ pub record CallsJoiningLaws : Type 0 where
   -- in a book with marks nothing else;
   pub neutral-marked : {h k : History} {s z : State} → Given h s → Given k z → OnlyIndexLines h k → {a : Answer} → JoinCall s z a ⊎ JoinCall z s a →
       a ≡ joinedTo (withoutMarks s)
-  -- and every book has such a one: under its sheet a zero header opens it, and fed its index lines, in whatever order, it has these and no others.
+  -- and every book has such a one: under its sheet a zero header opens it, and fed its index lines, in whatever order, it has their values and no other line.
   pub neutral-made : {h : History} {s : State} → Given h s → {first : List (List ℕ)} → List·Permᴰ first (indexLines (linesTaken h)) →
       IsOpened (indexAlone h first) × OnlyIndexLines h (indexAlone h first)
   -- "two groupings of three that both succeed give equal books"

@@ -10,7 +10,7 @@ use Rattle.book_model.specs.Joining.{joinedState, joining}
 use Rattle.book_model.specs.JoiningLaws.{joinedTo, withoutMarks, ChangesNothing, UnscoredFirst, Grouping, alone, together, AllSound}
 use Rattle.book_model.proofs.AsOneBook.{permuted-member}
 use Rattle.book_model.proofs.Demand3.{permuted-map}
-use Rattle.book_model.proofs.Joining.{joining-holds}
+use Rattle.book_model.proofs.Joining.{number, joining-holds}
 use Rattle.book_model.proofs.JoiningLaws.{joining-laws}
 use Rattle.driver.specs.Reading.{Stage}
 use Rattle.regions.specs.Regions.{regionOf, reports, printedState, goesOn, stopsWith, joinedFrom, printedRegions, IsRefusal, booksOf}
@@ -119,7 +119,7 @@ module _ (asked : Bool) (sheet : List ℕ) (sound : (input : List ℕ) → repor
         joinedFrom asked sheet s k (z ∷ inputs) ≡ joinedFrom asked sheet s (k + 1) inputs
     passed s x c k inputs =
         let e : joining s (bookOf z) ≡ joinedTo (withoutMarks s) = joining-laws .neutral-marked s (bookOf z) x (sound z r) c .0 in
-        one-joined asked sheet s k z inputs (both-go s (regionOf sheet z) r (ap (λ (a : Answer). a .refusal) e))
+        one-joined asked sheet s k z inputs (both-go s (regionOf sheet z) r (number e))
         ∙ ap (λ (a : Answer). joinedFrom asked sheet (a .state) (k + 1) inputs) e ∙ sym (first-dropped asked sheet s (k + 1) inputs)
 
     -- after some others
@@ -155,7 +155,7 @@ module _ (asked : Bool) (sheet : List ℕ) (sound : (input : List ℕ) → repor
           let f : joining (bookOf z) (bookOf one) ≡ joinedTo (withoutMarks (bookOf one)) =
           joining-laws .neutral-marked (bookOf one) (bookOf z) (sound one e) (sound z r) c .1 in
           first-joined asked sheet z (one ∷ ones) r
-          ∙ one-joined asked sheet (bookOf z) 2 one ones (both-go (bookOf z) (regionOf sheet one) e (ap (λ (a : Answer). a .refusal) f))
+          ∙ one-joined asked sheet (bookOf z) 2 one ones (both-go (bookOf z) (regionOf sheet one) e (number f))
           ∙ ap (λ (a : Answer). joinedFrom asked sheet (a .state) 3 ones) f ∙ sym (first-dropped asked sheet (bookOf one) 3 ones)
           ∙ renumbered (bookOf one) 2 3 ones (λ x. n (subst IsRefusal (sym same) x)) ∙ sym same
 
