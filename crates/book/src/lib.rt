@@ -1,4 +1,6 @@
 // Opening, feeding and closing a book (document 01, "A book, line by line").
+#![tactic(auto)]
+
 ghost use Rattle.std.specs.Prelude.{◌≡◌, ◌≤◌, eqb, length};
 ghost use Rattle.exact.specs.Choice.{pick};
 ghost use Rattle.loan_charge.specs.Tables.{exponentials};

@@ -1,4 +1,6 @@
 // A book, and what opening, feeding, joining and closing answer. The calls are in the crates book and joining.
+#![tactic(auto)]
+
 ghost use Rattle.std.specs.Prelude.{◌≡◌};
 ghost use Rattle.book_model.specs.Calls.{empty_book};
 ghost use Rattle.book_model.specs.Terms.{zero_header};
@@ -7,7 +9,7 @@ use figures::Sums;
 use line_forms::Header;
 
 // A book: its header, which never changes, the sums of the lines taken, and how many of these are index lines.
-#[derive(Drop)]
+#[derive(Clone, Copy)]
 pub struct Book {
     pub header: Header,
     pub sums: Sums,
@@ -39,35 +41,35 @@ pub fn refused() -> Book
 }
 
 // The two values of the house price index by which a property value is adjusted: that of 201512 and that of the loan's month.
-#[derive(Drop)]
+#[derive(Clone, Copy)]
 pub struct Adjustment {
     pub last: u64,
     pub own: u64,
 }
 
 // The answer of opening: a refusal, 0 for none, and the book.
-#[derive(Drop)]
+#[derive(Clone, Copy)]
 pub struct Opened {
     pub refusal: u64,
     pub book: Book,
 }
 
 // The answer of feeding: a refusal, 0 for none, and the book.
-#[derive(Drop)]
+#[derive(Clone, Copy)]
 pub struct Fed {
     pub refusal: u64,
     pub book: Book,
 }
 
 // The answer of a closing: a refusal, 0 for none, and the length of the text written, 0 where refused.
-#[derive(Drop)]
+#[derive(Clone, Copy)]
 pub struct Closed {
     pub refusal: u64,
     pub length: usize,
 }
 
 // The answer of joining: a refusal, 0 for none, and the book.
-#[derive(Drop)]
+#[derive(Clone, Copy)]
 pub struct Joined {
     pub refusal: u64,
     pub book: Book,

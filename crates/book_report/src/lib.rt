@@ -1,4 +1,6 @@
 // The report's ten lines, each written to what remains of the lent buffer.
+#![tactic(auto)]
+
 ghost use Rattle.std.specs.Prelude.{◌+◌, ◌≤◌, [], ◌∷◌, length};
 ghost use Rattle.report.specs.Decimal.{signed};
 ghost use Rattle.report.specs.Line.{line, Written, Added};

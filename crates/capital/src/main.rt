@@ -1,6 +1,8 @@
 // The mortgage capital book: reads a book from standard input and prints its report, with the word `cells` also its table of loans by score
 // and loan-to-value, or its refusal. With the words `sheet FILE` the book is under the credit factors of that file. With the words `join FILE ..`,
 // after these, it reads the books of those files, and prints the report of them joined.
+#![tactic(auto)]
+
 ghost use Rattle.std.specs.Prelude.{false, ◌≡◌, ◌+◌, ◌-◌, ◌^◌, ◌≤◌, ◌<◌, length};
 ghost use Rattle.loan_charge.specs.Tables.{exponentials};
 ghost use Rattle.book_model.specs.Calls.{state_at, lacks_lines, report_size, cells_size, Sound};

@@ -1,4 +1,6 @@
 // Reads the cases of a test from standard input, and prints how they came out.
+#![tactic(auto)]
+
 ghost use Rattle.std.specs.Prelude.{◌≡◌, ◌+◌, ◌<◌, ◌≤◌, length};
 
 use fixed_point::Signed;

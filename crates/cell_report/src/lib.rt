@@ -1,4 +1,6 @@
 // The table of loans by score and loan-to-value as 60 lines (02, L1), each written to what remains of the lent buffer.
+#![tactic(auto)]
+
 ghost use Rattle.std.specs.Prelude.{◌≡◌, ◌+◌, ◌≤◌, length};
 ghost use Rattle.report.specs.Line.{Written, Added};
 ghost use Rattle.cell_report.specs.CellReport.{cell_line, cell_text, band_text, cells_text, cell_at};
@@ -11,7 +13,7 @@ pub const PLACES: usize = 240;
 pub type Cells = [u64; PLACES];
 
 // The loans of a cell: how many, and the sums of their balances and charges.
-#[derive(Drop)]
+#[derive(Clone, Copy)]
 pub struct Cell {
     pub count: u64,
     pub balance: u64,

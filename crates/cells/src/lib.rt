@@ -1,4 +1,6 @@
 // The table of loans by score and loan-to-value (02, L1): 60 cells of four numbers, lent with the book.
+#![tactic(auto)]
+
 ghost use Rattle.std.specs.Prelude.{◌≡◌, ◌+◌, ◌*◌, ◌≤◌, ◌<◌, ◌^◌, ltb, get_or};
 ghost use Rattle.exact.specs.Choice.{pick};
 ghost use Rattle.cell_report.specs.CellReport.{place_of};

@@ -1,5 +1,7 @@
 // Charges many different loans, each with the supplement, to time the charge alone. Standard input has how many, then the range
 // of the sum of their totals and of their supplements, as in a case of `try_loan_charge`. Printed is whether the sums lie in them.
+#![tactic(auto)]
+
 ghost use Rattle.std.specs.Prelude.{◌≡◌, ◌<◌};
 ghost use Rattle.loan_charge.specs.Tables.{exponentials};
 

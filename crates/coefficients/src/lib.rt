@@ -1,12 +1,14 @@
 // The coefficients of the curves A and B and of the supplement's rate, as whole numbers.
 // The first set serves a remaining insurance term of up to 60 months. Every piece is computed, then one is chosen: no branch to mispredict.
+#![tactic(auto)]
+
 ghost use Rattle.std.specs.Prelude.{◌≡◌, true, false, ◌-◌};
 ghost use Rattle.exact.specs.Choice.{up_to};
 ghost use Rattle.coefficients.specs.Coefficients.{first_set_lem, Months};
 ghost use Rattle.coefficients.specs.Integers.{scaled_a, scaled_b, scaled_c, tenths_b};
 
 // The coefficients of a curve: weights in 12ths, means and deviations in 120000ths. The second weight is plus2 - minus2.
-#[derive(Drop)]
+#[derive(Clone, Copy)]
 pub struct ScaledCurve {
     pub weight1: u64,
     pub mean1: u64,

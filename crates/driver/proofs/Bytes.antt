@@ -9,7 +9,7 @@ use lib.Dec.{eqb, ltb}
 use lib.ListN.{length, take, drop, get_or, length-take, length-drop}
 use lib.Seq.{take-suc, take_all, length-take-le, take-add}
 use borrow.Author.Tests.{eq-eqb, ltb-true, ltb-false}
-use Rattle.bytes.specs.Bytes.{index_of}
+use Rattle.line_bytes.specs.LineBytes.{index_of}
 use Rattle.line_forms.specs.declared.Line.TheVariants.{Refusal}
 use Rattle.line_forms.specs.declared.HeaderLine.TheVariants.{Refusal as HeaderRefusal}
 use Rattle.line_forms.specs.Readings.{line_of, header_of}

@@ -8,7 +8,7 @@ use native.Mathlib.Numerals.{add-one}
 use native.Mathlib.Decide.{dec_lt}
 use lib.ListN.{length, take, drop, set, length-append, length-drop, length-take, take-append-drop}
 use lib.Seq.{take_all, take-suc-set, length-take-le}
-use Rattle.bytes.specs.Bytes.{index_of}
+use Rattle.line_bytes.specs.LineBytes.{index_of}
 use Rattle.report.specs.Line.{onto, Written}
 use Rattle.book_model.specs.Calls.{state_at, Sound}
 use Rattle.line_bytes.specs.LineBytes.{newline, unbroken, with_tail}

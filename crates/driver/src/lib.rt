@@ -1,4 +1,6 @@
 // The program's work: lines of an input that comes in parts, and what is printed of it. Only the reads and the write are left to the program.
+#![tactic(auto)]
+
 ghost use Rattle.std.specs.Prelude.{◌≡◌, true, [], ◌+◌, ◌^◌, ◌≤◌, ◌<◌, length, take, drop};
 ghost use Rattle.loan_charge.specs.Tables.{exponentials};
 ghost use Rattle.report.specs.Line.{Written};
@@ -16,7 +18,7 @@ use loan_charge::credit::Rates;
 use marks::Marks;
 
 // What the lines read so far gave: the refusal, 0 for none, the number of the line to be read or of the refused one, and the book.
-#[derive(Drop)]
+#[derive(Clone, Copy)]
 pub struct Progress {
     pub refusal: u64,
     pub number: u64,
@@ -25,7 +27,7 @@ pub struct Progress {
 
 // A run between two parts of the input: `held` counts the bytes of a line not yet ended, at the start of `tail`, and `read` all bytes
 // read so far.
-#[derive(Drop)]
+#[derive(Clone, Copy)]
 pub struct Run {
     pub progress: Progress,
     pub held: usize,
@@ -107,7 +109,7 @@ fn end_line(
 }
 
 // The lines of a part of the input that end in it, and where the rest of it begins.
-#[derive(Drop)]
+#[derive(Clone, Copy)]
 struct LinesRead {
     progress: Progress,
     rest: usize,

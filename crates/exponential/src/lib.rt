@@ -1,4 +1,6 @@
 // exp(-y) in fixed point, never below it (document 01, "The exponential").
+#![tactic(auto)]
+
 ghost use Rattle.std.specs.Prelude.{◌≡◌, ◌*◌, ◌-◌, ◌<◌, ◌≤◌, ◌^◌, min};
 ghost use Rattle.exponential.specs.Exponential.{half_square_lem, third_part_lem, decrease, lowered, exp_upper_lem};
 ghost use Rattle.exponential.specs.Table.{exponentials};

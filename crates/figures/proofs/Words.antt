@@ -5,15 +5,15 @@ use mathlib.Core.Logic.{◌↔◌}
 use Prim.Native.Nat.{ℕ, ◌+◌, ◌*◌, ◌-◌, ◌/◌, ◌≤◌, ◌<◌, min}
 use native.Mathlib.Nat.{le-div_iff_mul-le}
 use native.Mathlib.Omega.{arith}
-use borrow.Author.Tests.{eqb-true, eqb-false, eq-eqb}
+use borrow.Author.Tests.{eqb-true, eq-eqb}
 use lib.Dec.{eqb}
 use Rattle.exact.specs.Choice.{pick}
 use Rattle.fixed_point.specs.declared.Signed.{Signed}
 use Rattle.figures.specs.declared.Ratio.{Ratio}
 use Rattle.figures.specs.declared.Sums.{Sums}
 use Rattle.figures.specs.declared.Ratio.TheVariants.{Number, None}
-use Rattle.figures.specs.Figures.{required_of, positive_equity, admitted_b_lem, admitted_c_lem, admitted, capital_of, rounded, ratio_size_lem, ratio_of, figures_from}
-use Rattle.figures.specs.Words.{Greatest, Least, ReportFigures, FigureWords}
+use Rattle.figures.specs.Figures.{required_of, positive_equity, admitted_b_lem, admitted_c_lem, admitted, capital_of, ratio_size_lem, ratio_of, figures_from}
+use Rattle.figures.specs.Words.{Greatest, ReportFigures, FigureWords}
 
 words-b : (e b : ℕ) → Greatest (λ x. (x ≤ b) × (3 * x ≤ 2 * e)) (admitted_b_lem e b)
 words-b e b = record { holds = (omega arith, omega arith); most = λ y h. omega (arith, h.0, h.1) }

@@ -1,4 +1,6 @@
 // What the lines of a book add up to, and the report's figures computed from it. Numbers only.
+#![tactic(auto)]
+
 ghost use Rattle.std.specs.Prelude.{◌≡◌, ◌+◌, ◌-◌, ◌*◌, ◌/◌, ◌<◌, ◌≤◌, ◌^◌, min};
 ghost use Rattle.figures.specs.Sums.{counts_sum_lem, signed_sum_lem, money_sum_lem, money_of, no_sums, plus, Bounded, InLimits};
 ghost use Rattle.figures.specs.Figures.{difference, whole_cents_lem, home_of, oper_of, admitted_b_lem, admitted_c_lem, admitted, capital_of, ratio_size_lem, ratio_of, figures_of};
@@ -7,14 +9,14 @@ ghost use Rattle.figures.specs.Division.{divided};
 use fixed_point::{Division, Signed};
 
 // An amount of money: whole cents and ten-millionths of a cent. In a sum the parts are not carried into the cents.
-#[derive(Drop)]
+#[derive(Clone, Copy)]
 pub struct Money {
     pub cents: u64,
     pub parts: u64,
 }
 
 // How many lines are loans, loans without a score, loans with a fresh one, and no loans.
-#[derive(Drop)]
+#[derive(Clone, Copy)]
 pub struct Counts {
     pub loans: u64,
     pub unscored: u64,
@@ -23,7 +25,7 @@ pub struct Counts {
 }
 
 // What lines add up to.
-#[derive(Drop)]
+#[derive(Clone, Copy)]
 pub struct Sums {
     pub counts: Counts,
     pub total: Signed,
@@ -137,14 +139,14 @@ pub fn add(x: Sums, y: Sums) -> Sums
 }
 
 // A ratio in hundredths of a per cent, or none where nothing is required (what 01 prints as `none`).
-#[derive(Drop)]
+#[derive(Clone, Copy)]
 pub enum Ratio {
     Number(Signed),
     None,
 }
 
 // The report's figures, in its order.
-#[derive(Drop)]
+#[derive(Clone, Copy)]
 pub struct Figures {
     pub loans: u64,
     pub total: Signed,

@@ -1,4 +1,6 @@
 // Products and quotients of 64-bit fixed-point numbers. Each contract is an equation on natural numbers.
+#![tactic(auto)]
+
 ghost use Rattle.std.specs.Prelude.{◌≡◌, ◌*◌, ◌<◌, ◌≤◌, ◌^◌};
 ghost use Rattle.fixed_point.specs.Quotient.{scaled_product_lem, division_step_lem};
 
@@ -25,14 +27,14 @@ pub fn small_product(a: u64, b: u64) -> u64
 }
 
 // A signed number: plus - minus.
-#[derive(Drop)]
+#[derive(Clone, Copy)]
 pub struct Signed {
     pub plus: u64,
     pub minus: u64,
 }
 
 // A long division so far.
-#[derive(Drop)]
+#[derive(Clone, Copy)]
 pub struct Division {
     pub quotient: u64,
     pub remainder: u64,

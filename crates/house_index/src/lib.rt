@@ -1,4 +1,6 @@
 // The house price index (02, L4): the values that are set, by area and month, lent with the book.
+#![tactic(auto)]
+
 ghost use Rattle.std.specs.Prelude.{◌≡◌, ◌<◌, set};
 ghost use Rattle.book_model.specs.HouseIndex.{InTable, is_indexed_lem, adjustment_of, lacking, place_for, values_at, empty_index};
 ghost use Rattle.book_model.specs.Ranges.{LoanRanges, IndexRanges};

@@ -1,4 +1,6 @@
 // Joining two open books (02, L8): head office adds what the regions' books keep, without reading their lines again.
+#![tactic(auto)]
+
 ghost use Rattle.std.specs.Prelude.{◌≡◌, [], ◌+◌, ◌≤◌, length};
 ghost use Rattle.loan_charge.specs.CreditFactor.{rate_places};
 ghost use Rattle.figures.specs.Sums.{plus};

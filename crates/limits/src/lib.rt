@@ -1,5 +1,7 @@
 // The limits of a book: the header's counts of loans, of loans without a score and of loans with a fresh one (5 and 6), the limit on other
 // lines (8), and the room for what a closing writes (9).
+#![tactic(auto)]
+
 ghost use Rattle.std.specs.Prelude.{◌≡◌, leb};
 ghost use Rattle.book_model.specs.Accepted.{most_other, loan_beyond_lem};
 ghost use Rattle.book_model.specs.Calls.{counts_of, lacks_lines, closing_refusal_lem, SoundBook};

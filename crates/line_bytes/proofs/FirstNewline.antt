@@ -6,11 +6,10 @@ use Prim.Native.Nat.{ℕ, suc, ◌+◌, ◌≤◌, ◌<◌}
 use native.Mathlib.Omega.{arith}
 use native.Mathlib.Numerals.{add-one}
 use lib.Dec.{eqb}
-use lib.ListN.{length, take, drop, get_or, take-append-drop}
-use lib.Seq.{take-suc, take_all, take-length, drop-drop, drop-append-le, length-take-le}
-use borrow.Author.Tests.{eqb-true}
-use Rattle.bytes.specs.Bytes.{slice, index_after, index_of}
-use Rattle.line_bytes.specs.LineBytes.{newline, unbroken}
+use lib.ListN.{length, take, drop, get_or, take-append-drop, drop_of_length-le}
+use lib.Seq.{take-suc, take_all, take-length, drop-drop, drop-append-le, drop-cons, length-take-le}
+use borrow.Author.Tests.{eqb-true, eq-eqb, ne_eqb}
+use Rattle.line_bytes.specs.LineBytes.{newline, unbroken, index_after, index_of}
 
 pub unbroken-append : (a b : List ℕ) → unbroken (a ++ b) ≡ (unbroken a && unbroken b)
 unfolding unbroken
@@ -79,11 +78,6 @@ block-skipped chunk i n h e =
     ∙ rw (length-take-le n (drop i chunk) h, drop-drop n i chunk) refl in
     omega arith
 
--- the rest of a chunk is searched to its end
-pub found-in-rest : {r : ℕ} (chunk : List ℕ) (at : ℕ) → r ≡ at + index_of newline (slice at (length chunk) chunk) → r ≡ at + index_of newline (drop at chunk)
-unfolding slice
-found-in-rest chunk at e = rw (take-length chunk) at e
-
 -- bytes in which no newline is found are unbroken
 pub none_found : (bytes : List ℕ) (end : ℕ) → end ≡ index_of newline bytes → length bytes ≤ end → unbroken bytes ≡ true
 none_found bytes end found h = ap unbroken (sym (take_all end bytes h)) ∙ rw found (index-unbroken bytes)
@@ -97,3 +91,19 @@ newline-last w rest h e = go (unbroken (drop rest w)) (sym (unbroken-append (dro
     go : (b : Bool) → (b && false) ≡ true → ⊥
     go true k = true≢false (sym k)
     go false k = true≢false (sym k)
+
+-- at a newline none stands before it,
+pub index_here : (s : List ℕ) (i : ℕ) → i < length s → get_or s i 0 ≡ newline → index_of newline (drop i s) ≡ 0
+unfolding index_of
+index_here s i h e = rw (drop-cons s i 0 h) (rw (eq-eqb (get_or s i 0) newline e) refl)
+
+-- and at another byte it stands as far from the next, one place on.
+pub index_later : (s : List ℕ) (i : ℕ) → i < length s → (get_or s i 0 ≡ newline → ⊥) →
+    i + index_of newline (drop i s) ≡ (i + 1) + index_of newline (drop (i + 1) s)
+unfolding index_of
+index_later s i h n = rw (add-one i, drop-cons s i 0 h) (rw (ne_eqb (get_or s i 0) newline n) (omega arith))
+
+-- at the end there is none
+pub index_end : (s : List ℕ) (i : ℕ) → length s ≤ i → index_of newline (drop i s) ≡ 0
+unfolding index_of
+index_end s i h = rw (drop_of_length-le s h) refl

@@ -1,4 +1,6 @@
 // The bytes of a line: where it ends in a part of the input, and what is held of a line not yet ended.
+#![tactic(auto)]
+
 pub mod newlines;
 
 ghost use Rattle.std.specs.Prelude.{◌≡◌, [], ◌∷◌, ◌≤◌, length, take, drop};

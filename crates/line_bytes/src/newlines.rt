@@ -1,7 +1,6 @@
 // Where a line ends in a part of the input.
 ghost use Rattle.std.specs.Prelude.{◌≡◌, ◌+◌, ◌-◌, ◌≤◌, length, drop};
-ghost use Rattle.bytes.specs.Bytes.{index_of};
-ghost use Rattle.line_bytes.specs.LineBytes.{newline, unbroken};
+ghost use Rattle.line_bytes.specs.LineBytes.{newline, unbroken, index_of};
 
 // Whether no byte of a block ends a line. The loop has no other way out, so that the bytes of a block are compared at once.
 fn clear(block: &[u8]) -> bool
@@ -47,6 +46,22 @@ fn skip_part(chunk: &[u8], from: usize, n: usize) -> usize
     from
 }
 
+// Where the first newline from `from` on stands, or else the chunk's end.
+fn find(chunk: &[u8], from: usize) -> usize
+    requires { from ≤ length chunk.now }
+    ensures equation { result ≡ from + index_of newline (drop from chunk.now) }
+    ensures inside { result ≤ length chunk.now }
+{
+    let mut i = from;
+    while i < chunk.len() {
+        if chunk[i] == b'\n' {
+            return i;
+        }
+        i += 1;
+    }
+    i
+}
+
 // Where the line that begins at `from` ends: at its newline, or else at the chunk's end. In the block that has its newline halves are
 // skipped by choices, down to one byte: a branch on where it stands would often be predicted wrong.
 pub fn line_end(chunk: &[u8], from: usize) -> usize
@@ -60,5 +75,5 @@ pub fn line_end(chunk: &[u8], from: usize) -> usize
     let p4 = skip_part(chunk, p8, 4);
     let p2 = skip_part(chunk, p4, 2);
     let p1 = skip_part(chunk, p2, 1);
-    bytes::scan::find(chunk, p1, chunk.len(), b'\n')
+    find(chunk, p1)
 }

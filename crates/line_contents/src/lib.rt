@@ -1,4 +1,6 @@
 // A reader for each form, and which of them a line's name asks for: from the bytes of a line to the data it holds.
+#![tactic(auto)]
+
 ghost use Rattle.std.specs.Prelude.{true, false, ◌≡◌};
 ghost use Rattle.exact.specs.Text.{text};
 ghost use Rattle.line_forms.specs.Bytes.{stands_at, after};
@@ -16,7 +18,7 @@ use line_forms::{
 mod areas;
 
 // The month and the area that end a loan, and the position after them.
-#[derive(Drop)]
+#[derive(Clone, Copy)]
 struct Origin {
     from: u64,
     area: u64,

@@ -1,4 +1,6 @@
 // Readers of a field: a text, a run of bytes, a number, a word, a name.
+#![tactic(auto)]
+
 ghost use Rattle.std.specs.Prelude.{◌≡◌, ◌-◌, ◌≤◌, ◌<◌, true, ◌&&◌, eqb, ltb, length, drop, get_or};
 ghost use Rattle.line_forms.specs.Bytes.{same as sameBytes, stands_at, after, past, run_of, within, all_within};
 ghost use Rattle.line_forms.specs.Forms.{choices_of};
@@ -17,19 +19,19 @@ const MOST_DIGITS: usize = 14;
 const MOST_LETTERS: usize = 12;
 
 // A field's value and the position after it; past the end of the line where the field does not stand there.
-#[derive(Drop)]
+#[derive(Clone, Copy)]
 pub struct Found {
     pub value: u64,
     pub next: usize,
 }
 
-#[derive(Drop)]
+#[derive(Clone, Copy)]
 pub struct FoundScore {
     pub score: Score,
     pub next: usize,
 }
 
-#[derive(Drop)]
+#[derive(Clone, Copy)]
 pub struct FoundSigned {
     pub amount: Signed,
     pub next: usize,

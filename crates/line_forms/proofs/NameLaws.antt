@@ -47,7 +47,7 @@ letters-some k (suc m) h = rw length-append (omega arith)
 name-append : (a : ℕ) (s t : List ℕ) → name_from a (s ++ t) ≡ name_from (name_from a s) t
 unfolding name_from
 name-append a [] t = refl
-name-append a (b ∷ s) t = name-append _ s t
+name-append a (b ∷ s) t = name-append (a * 26 + (b - 96)) s t
 
 letters-number : (k n : ℕ) → n ≤ names_to k → name_from 0 (letters_in k n) ≡ n
 unfolding letters_in name_from

@@ -1,4 +1,6 @@
 // What a line holds, and the range of each number (01, "A book, line by line"). specs/ has the forms and what reading a line answers.
+#![tactic(auto)]
+
 pub mod ranges;
 
 ghost use Rattle.std.specs.Prelude.{◌≡◌};
@@ -11,7 +13,7 @@ use loan_charge::Score;
 pub const LONGEST_LINE: usize = 240;
 
 // The counts of loans, of loans without a score and of loans with a fresh one, and the liabilities held for home loans in cents.
-#[derive(Drop)]
+#[derive(Clone, Copy)]
 pub struct Header {
     pub loans: u64,
     pub unscored: u64,
@@ -21,7 +23,7 @@ pub struct Header {
 
 // Balance and property value in cents, remaining amortization and insurance term in months; supplement is 1 where it applies, else 0;
 // the month as YYYYMM, and the area's place in the list of names.
-#[derive(Drop)]
+#[derive(Clone, Copy)]
 pub struct Loan {
     pub balance: u64,
     pub value: u64,
@@ -34,7 +36,7 @@ pub struct Loan {
 }
 
 // A value of the house price index: the area's place in the list of names, the month as YYYYMM, the value in hundredths.
-#[derive(Drop)]
+#[derive(Clone, Copy)]
 pub struct IndexValue {
     pub area: u64,
     pub month: u64,
@@ -42,20 +44,20 @@ pub struct IndexValue {
 }
 
 // A mark that keeps the book under a name, or a return to it; the name as a number.
-#[derive(Drop)]
+#[derive(Clone, Copy)]
 pub struct MarkLine {
     pub back: bool,
     pub name: u64,
 }
 
-#[derive(Drop)]
+#[derive(Clone, Copy)]
 pub enum Class {
     Home,
     Multi,
 }
 
 // Premium in cents, original term in months, completed years.
-#[derive(Drop)]
+#[derive(Clone, Copy)]
 pub struct Policy {
     pub class: Class,
     pub premium: u64,
@@ -64,7 +66,7 @@ pub struct Policy {
 }
 
 // Float is a single-currency floating/floating swap; fx includes gold.
-#[derive(Drop)]
+#[derive(Clone, Copy)]
 pub enum Kind {
     Rate,
     Float,
@@ -75,7 +77,7 @@ pub enum Kind {
 }
 
 // Replacement cost and notional in cents, months to run, remaining payments, the counterparty's factor in ten-thousandths.
-#[derive(Drop)]
+#[derive(Clone, Copy)]
 pub struct Derivative {
     pub kind: Kind,
     pub cost: Signed,
@@ -86,14 +88,14 @@ pub struct Derivative {
 }
 
 // Amount in cents, factor in ten-thousandths.
-#[derive(Drop)]
+#[derive(Clone, Copy)]
 pub struct Asset {
     pub amount: u64,
     pub factor: u64,
 }
 
 // Multi-unit incurred claims and loss components, a stated charge, and the parts of capital.
-#[derive(Drop)]
+#[derive(Clone, Copy)]
 pub enum Item {
     Claims,
     Lossc,
@@ -105,14 +107,14 @@ pub enum Item {
 }
 
 // An amount in cents; only equity and aoci may be negative.
-#[derive(Drop)]
+#[derive(Clone, Copy)]
 pub struct Amount {
     pub item: Item,
     pub amount: Signed,
 }
 
 // What a line holds, whatever the ranges of its numbers.
-#[derive(Drop)]
+#[derive(Clone, Copy)]
 pub enum Content {
     Header(Header),
     Loan(Loan),
@@ -126,7 +128,7 @@ pub enum Content {
 }
 
 // The answer for a line after the header. A refusal has the number of 01, "Who can be turned down".
-#[derive(Drop)]
+#[derive(Clone, Copy)]
 pub enum Line {
     Loan(Loan),
     Policy(Policy),
@@ -139,7 +141,7 @@ pub enum Line {
 }
 
 // The answer for a header line.
-#[derive(Drop)]
+#[derive(Clone, Copy)]
 pub enum HeaderLine {
     Header(Header),
     Refusal(u64),

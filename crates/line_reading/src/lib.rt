@@ -1,4 +1,6 @@
 // From what a line holds to the line that was read, or to the refusals that need only the line (01, "A book, line by line").
+#![tactic(auto)]
+
 ghost use Rattle.std.specs.Prelude.{◌≡◌, ◌+◌, ltb};
 ghost use Rattle.exact.specs.Choice.{pick};
 ghost use Rattle.line_forms.specs.declared.Line.TheVariants.{Refusal};

@@ -15,21 +15,21 @@ use fixed_point::{Division, Signed, division_step, scaled_product};
 pub type Exponentials = exponential::Exponentials;
 
 // A loan's base plus supplement, and its supplement, in cents.
-#[derive(Drop)]
+#[derive(Clone, Copy)]
 pub struct LoanCharge {
     pub total: Signed,
     pub supplement: Signed,
 }
 
 // The two exponents of a curve, in units of 2^-38.
-#[derive(Drop)]
+#[derive(Clone, Copy)]
 struct Exponents {
     first: u64,
     second: u64,
 }
 
 // The two exponentials of a curve, in units of 2^-40.
-#[derive(Drop)]
+#[derive(Clone, Copy)]
 struct Heights {
     first: u64,
     second: u64,

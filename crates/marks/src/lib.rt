@@ -1,4 +1,6 @@
 // Marks in a long book (02, L6): each keeps the book's numbers and tables under a name, in a row of a table lent with the book.
+#![tactic(auto)]
+
 ghost use Rattle.std.specs.Prelude.{◌≡◌, [], ◌++◌, suc, ◌+◌, ◌-◌, ◌<◌, ◌≤◌, length, get_or, take, drop, set, replicate, true, false, eqb};
 ghost use Rattle.exact.specs.Choice.{pick};
 ghost use Rattle.book_model.specs.Marks.{numbers_of, row_of, book_in_lem, cells_in, index_in, empty_row, no_marks, names_in, place_among, free_row, kept_in};

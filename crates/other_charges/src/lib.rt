@@ -1,4 +1,6 @@
 // The charges of what is no home loan, in ten-millionths of a cent: fine enough for every one to be whole.
+#![tactic(auto)]
+
 ghost use Rattle.std.specs.Prelude.{◌≡◌, ◌≤◌, get_or};
 ghost use Rattle.other_charges.specs.Charges.{provision_tenths_lem, add_on_thousandths};
 ghost use Rattle.other_charges.specs.Parts.{asset_parts_lem, share_parts_lem, derivative_parts_lem, provision_parts_lem};

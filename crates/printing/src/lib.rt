@@ -1,4 +1,6 @@
 // What is printed where the lines end: the report, with the table of cells where it is asked for, or a refusal.
+#![tactic(auto)]
+
 ghost use Rattle.std.specs.Prelude.{◌≡◌, false, ◌+◌, ◌*◌, ◌≤◌, length};
 ghost use Rattle.report.specs.Line.{Written};
 ghost use Rattle.book_model.specs.Calls.{lacks_lines, report_size, cells_size, cells_text_of, SoundBook};

@@ -1,1 +1,2 @@
 // What is promised, on one page: see specs/Promises.antt. No functions.
+#![tactic(auto)]

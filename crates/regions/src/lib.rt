@@ -1,4 +1,6 @@
 // Books of regions joined (02, L8): files that are whole books, one after the other.
+#![tactic(auto)]
+
 ghost use Rattle.std.specs.Prelude.{◌≡◌, [], ◌+◌, ◌≤◌, length};
 ghost use Rattle.book_model.specs.Calls.{state_at, report_size, cells_size, Sound};
 ghost use Rattle.book_model.specs.Marks.{no_marks};
@@ -28,7 +30,7 @@ pub fn reports(p: Progress) -> bool
 }
 
 // What one more file made of the book of those before it: `done` where something is printed and no further file is read.
-#[derive(Drop)]
+#[derive(Clone, Copy)]
 pub struct FileJoined {
     pub done: bool,
     pub length: usize,

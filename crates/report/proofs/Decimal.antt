@@ -1,6 +1,6 @@
 -- Laws of the text of signed numbers.
 -- Assumes nothing.
-use mathlib.Core.Path.{◌≡◌, refl, ap, ◌∙◌}
+use mathlib.Core.Path.{◌≡◌, ap, ◌∙◌}
 use mathlib.Core.List.{◌++◌}
 use Prim.Native.Nat.{ℕ, ◌+◌, ◌-◌, ◌^◌, ◌≤◌, ◌<◌}
 use mathlib.Core.Logic.{◌⊎◌, inl, inr, ⊎_elim}
@@ -9,7 +9,7 @@ use native.Mathlib.Omega.{arith}
 use lib.ListN.{length}
 use Rattle.exact.specs.Text.{text}
 pub use Rattle.exact.proofs.Decimal.{digits-one, digits_more, digits_value, digits-length}
-use Rattle.report.specs.Decimal.{leading, digits, signed}
+use Rattle.report.specs.Decimal.{digits, signed}
 use borrow.Author.Tests.{lt-ltb, le-ltb}
 use Rattle.fixed_point.specs.declared.Signed.{Signed}
 

@@ -1,5 +1,7 @@
 // Lines of decimal numbers, written into a buffer that the caller lends. A function `put_..` writes from the buffer's start, tells how many bytes it
 // wrote, and leaves the bytes after them; an `add_..` goes on after the first `at` bytes, and lends what remains of the buffer to the other.
+#![tactic(auto)]
+
 ghost use Rattle.std.specs.Prelude.{[], ◌∷◌, ◌++◌, ◌+◌, ◌≤◌, length};
 ghost use Rattle.exact.specs.Text.{text};
 ghost use Rattle.report.specs.Decimal.{digits, signed};

@@ -1,4 +1,6 @@
 // Writes five report lines one after the other, each to what remains of a buffer, then a refusal, and prints them.
+#![tactic(auto)]
+
 ghost use Rattle.std.specs.Prelude.{◌≤◌, length};
 ghost use Rattle.report.specs.Line.{Written};
 ghost use Rattle.report_lines.specs.Sample.{sample};

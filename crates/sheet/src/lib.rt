@@ -1,4 +1,6 @@
 // Sheets of credit factors in hundredths (02, L3): loading one, and the regulator's table as one.
+#![tactic(auto)]
+
 ghost use Rattle.std.specs.Prelude.{◌≡◌, true, ◌<◌, get_or};
 ghost use Rattle.loan_charge.specs.CreditFactor.{built_in_sheet, built_in_rates_lem, rates_of_lem};
 ghost use Rattle.sheet.specs.Sheet.{place_passes_lem, sheet_passes};

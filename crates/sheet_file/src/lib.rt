@@ -1,4 +1,6 @@
 // A file that is a list of numbers, as a sheet of credit factors is lent (02, L3).
+#![tactic(auto)]
+
 ghost use Rattle.std.specs.Prelude.{◌≡◌};
 ghost use Rattle.sheet_file.specs.NumberList.{ZeroFrom, ReadsNumbers};
 ghost use Rattle.sheet_file.specs.Reading.{after_separator_lem, put_after, count_after};
@@ -10,7 +12,7 @@ pub const MOST: usize = 67;
 pub type Room = [u64; MOST];
 
 // How many numbers were handed out, and whether the bytes are a list of numbers.
-#[derive(Drop)]
+#[derive(Clone, Copy)]
 pub struct Numbers {
     pub count: usize,
     pub good: bool,

@@ -4,6 +4,8 @@
 // cells into so many of a buffer of 8,320. A closing prints the whole buffer, in which every byte was `.` before. `k` keeps a copy of the
 // book, that of a refused opening at first, and answers nothing; `x` exchanges the book and the copy kept, which has no marks, and answers
 // nothing; `j` joins the copy kept and the book, which becomes what joining gave.
+#![tactic(auto)]
+
 ghost use Rattle.std.specs.Prelude.{◌≡◌, ◌≤◌, ◌<◌, length};
 ghost use Rattle.book_model.specs.Calls.{state_at, SoundBook, Sound};
 ghost use Rattle.book_model.specs.Marks.{no_marks};

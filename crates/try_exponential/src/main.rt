@@ -1,5 +1,7 @@
 // Tries the exponential on the cases of standard input, `y least greatest` to a line, and prints each answer that
 // lies outside.
+#![tactic(auto)]
+
 ghost use Rattle.std.specs.Prelude.{◌≡◌, ◌<◌, ◌≤◌, length};
 ghost use Rattle.exponential.specs.Table.{exponentials};
 

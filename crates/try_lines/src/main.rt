@@ -1,6 +1,8 @@
 // Tries the line forms on the cases of standard input, `length feeding opening kind a b c d e f g h i line`, and prints
 // each case whose answer is another. The two refusals are 0 where the line is accepted; the kind and the nine numbers
 // are then what it holds, else 0. The line is as many bytes as its length says, whatever they are.
+#![tactic(auto)]
+
 ghost use Rattle.std.specs.Prelude.{◌+◌, ◌<◌, ◌≤◌, length};
 
 use cases::{Block, Number, Tally, Tried};

@@ -2,6 +2,8 @@
 // outside. A case is a line of numbers, of which the first tells its kind:
 // 1 p q balance months term sup m, and the range of the total and of the supplement
 // 2 scored number age aged loans unscored, and m
+#![tactic(auto)]
+
 ghost use Rattle.std.specs.Prelude.{◌≡◌, ◌<◌, ◌≤◌, length};
 ghost use Rattle.loan_charge.specs.Tables.{exponentials};
 

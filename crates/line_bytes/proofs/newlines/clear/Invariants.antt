@@ -1,0 +1,17 @@
+use lib.Seq.{take_all}
+use mathlib.Core.Path.{◌≡◌, refl, ◌∙◌, ap}
+use Prim.Native.Nat.{◌-◌, ◌≤◌}
+use native.Mathlib.Omega.{arith}
+use lib.ListN.{length, take}
+use borrow.Author.Rules.{rules}
+use Rattle.line_bytes.specs.LineBytes.{unbroken}
+use Rattle.line_bytes.proofs.FirstNewline.{unbroken-next}
+use Rattle.line_bytes.proofs.newlines.clear.Given as goal
+
+-- `newlines::clear` meets its contract.
+
+abbrev pub invariant-loop-i : goal.invariant-loop-i
+invariant-loop-i l = (l.clear ≡ unbroken (take l.i l.block)) × (l.i ≤ length l.block)
+
+abbrev pub decreases-loop-i : goal.decreases-loop-i
+decreases-loop-i l = length l.block - l.i

@@ -1,0 +1,18 @@
+use mathlib.Core.Path.{◌≡◌, refl, sym, ◌∙◌, ap}
+use Prim.Native.Nat.{◌+◌, ◌-◌, ◌≤◌}
+use native.Mathlib.Omega.{arith}
+use mathlib.Core.Bool.{Bool, ◌&&◌}
+use lib.Dec.{eqb}
+use lib.ListN.{length, drop, get_or}
+use Rattle.line_forms.specs.Bytes.{same}
+use Rattle.line_forms.proofs.Bytes.{same_step, same_end, same_length, and_assoc, and-true}
+use borrow.Author.Rules.{rules}
+use Rattle.line_fields.proofs.same.Given as goal
+
+-- `same` meets its contract.
+
+abbrev pub invariant-loop-i : goal.invariant-loop-i
+invariant-loop-i l = (l.i ≤ length l.b) × (same l.a l.b ≡ (l.all && same (drop l.i l.a) (drop l.i l.b)))
+
+abbrev pub decreases-loop-i : goal.decreases-loop-i
+decreases-loop-i l = length l.b - l.i

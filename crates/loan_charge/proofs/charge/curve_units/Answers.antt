@@ -1,0 +1,19 @@
+use mathlib.Core.Path.{◌∙◌, ap, subst⁻¹}
+use Rattle.loan_charge.specs.declared.charge.Heights.{Heights}
+use Rattle.loan_charge.specs.Computation.{weighted}
+use Rattle.loan_charge.proofs.Money.{AtMostOne}
+use Rattle.loan_charge.proofs.Sizes.{heights-small}
+use borrow.Author.Rules.{rules}
+use Rattle.loan_charge.proofs.charge.curve_units.Goals as goal
+
+-- `charge::curve_units` meets its contract. Assumes nothing.
+
+pub weigh-requires : goal.weigh-requires
+weigh-requires c =
+    let small : AtMostOne c.heights_at.result =
+    subst⁻¹ (λ (h : Heights). AtMostOne h) c.heights_at.ensures (heights-small c.args.y) in
+    (c.requires.0, small.first, small.second)
+
+pub returns : goal.returns
+returns c =
+    c.weigh.ensures ∙ ap (λ (h : Heights). weighted c.args.c h) c.heights_at.ensures
