@@ -1,3 +1,4 @@
+use native.Mathlib.Omega.{arith}
 use mathlib.Core.Path.{sym, ◌∙◌}
 use borrow.Author.Tests.{ne_eqb}
 use Rattle.line_forms.specs.Readings.{amount_held, content_of}
@@ -101,22 +102,21 @@ pub returns-in_default : goal.returns-in_default
 unfolding content_of amount_held
 returns-in_default c =
     let p = c.word_at-name.result.value in
-    let k = c.in-0.rest in
     rw (
       ← c.word_at-name.ensures.0,
-      ne_eqb p 0 k.0.0.0.0.0.0.0.0.0.0.0.0.0.0.1,
-      ne_eqb p 1 k.0.0.0.0.0.0.0.0.0.0.0.0.0.1,
-      ne_eqb p 2 k.0.0.0.0.0.0.0.0.0.0.0.0.1,
-      ne_eqb p 3 k.0.0.0.0.0.0.0.0.0.0.0.1,
-      ne_eqb p 4 k.0.0.0.0.0.0.0.0.0.0.1,
-      ne_eqb p 12 k.0.0.1,
-      ne_eqb p 13 k.0.1,
-      ne_eqb p 14 k.1,
-      ne_eqb p 5 k.0.0.0.0.0.0.0.0.0.1,
-      ne_eqb p 6 k.0.0.0.0.0.0.0.0.1,
-      ne_eqb p 7 k.0.0.0.0.0.0.0.1,
-      ne_eqb p 8 k.0.0.0.0.0.0.1,
-      ne_eqb p 9 k.0.0.0.0.0.1,
-      ne_eqb p 10 k.0.0.0.0.1,
-      ne_eqb p 11 k.0.0.0.1,
+      ne_eqb p 0 (λ e. omega (arith, e)),
+      ne_eqb p 1 (λ e. omega (arith, e)),
+      ne_eqb p 2 (λ e. omega (arith, e)),
+      ne_eqb p 3 (λ e. omega (arith, e)),
+      ne_eqb p 4 (λ e. omega (arith, e)),
+      ne_eqb p 12 (λ e. omega (arith, e)),
+      ne_eqb p 13 (λ e. omega (arith, e)),
+      ne_eqb p 14 (λ e. omega (arith, e)),
+      ne_eqb p 5 (λ e. omega (arith, e)),
+      ne_eqb p 6 (λ e. omega (arith, e)),
+      ne_eqb p 7 (λ e. omega (arith, e)),
+      ne_eqb p 8 (λ e. omega (arith, e)),
+      ne_eqb p 9 (λ e. omega (arith, e)),
+      ne_eqb p 10 (λ e. omega (arith, e)),
+      ne_eqb p 11 (λ e. omega (arith, e)),
     )
