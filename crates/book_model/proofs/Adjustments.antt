@@ -131,6 +131,7 @@ pub settled-line : (by : Index) (kept : List (List ℕ)) → Settled by kept →
     lacking (adjustment_of by l) ≡ false
 unfolding Settled
 settled-line by (r ∷ kept) h s (Memᴰ.head e) l c = loan-has by l (ap (λ (x : List ℕ). line_content (line_of x)) (sym e) ∙ c) h.0
+settled-line by [] h s x3 l c = elim x3 [ ]
 settled-line by (r ∷ kept) h s (Memᴰ.tail m) l c = settled-line by kept h.1 s m l c
 
 pub still_alike : {values others : Index} → Extends values others → {c : Content} → Has values c → Alike values others c

@@ -72,6 +72,7 @@ permuted-member (Permᴰ.trans p q) s m = permuted-member q s (permuted-member p
 settled-has : (v : Index) (kept : List (List ℕ)) → Settled v kept → (s : List ℕ) → Memᴰ s kept → Has v (line_content (line_of s))
 unfolding Settled
 settled-has v (r ∷ kept) h s (Memᴰ.head e) = subst (λ (x : List ℕ). Has v (line_content (line_of x))) (sym e) h.0
+settled-has v [] h s x'' = elim x'' [ ]
 settled-has v (r ∷ kept) h s (Memᴰ.tail m) = settled-has v kept h.1 s m
 
 alike-has : (v w : Index) (c : Content) → Alike v w c → Has v c → Has w c

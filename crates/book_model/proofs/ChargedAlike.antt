@@ -149,6 +149,7 @@ same-factor rates g j k Unscored l u =
 member-counts : (kept : List (List ℕ)) (s : List ℕ) → Memᴰ s kept →
     ((line_counts s).loans ≤ (counts_in kept).loans) × ((line_counts s).unscored ≤ (counts_in kept).unscored)
 unfolding counts_in
+member-counts [] s x' = elim x' [ ]
 member-counts (r ∷ kept) s (Memᴰ.head e) = (
   omega (arith, ap (λ (x : List ℕ). (line_counts x).loans) e),
   omega (arith, ap (λ (x : List ℕ). (line_counts x).unscored) e),

@@ -122,6 +122,7 @@ own_value i = rw (eq-eqb i.area i.area refl, eq-eqb i.month i.month refl) refl
 pub line_sets : (kept : List (List ℕ)) (s : List ℕ) (i : IndexValue) → Memᴰ s kept → line_content (line_of s) ≡ index i →
     i.value ≤ values_in kept i.area i.month
 unfolding values_in sum_by
+line_sets [] s i x'' f = elim x'' [ ]
 line_sets (r ∷ kept) s i (Memᴰ.head e) f =
     omega (arith, ap (set_by i.area i.month) (ap (λ (x : List ℕ). line_content (line_of x)) (sym e) ∙ f) ∙ own_value i)
 line_sets (r ∷ kept) s i (Memᴰ.tail m) f = omega (arith, line_sets kept s i m f)

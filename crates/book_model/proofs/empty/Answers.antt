@@ -1,0 +1,9 @@
+use mathlib.Core.Path.{refl}
+use borrow.Author.Rules.{rules}
+use Rattle.book_model.proofs.empty.Goals as goal
+
+-- `empty` meets its contract.
+
+pub returns : goal.returns
+returns c =
+    rw c.none.ensures refl
