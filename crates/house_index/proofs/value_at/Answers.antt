@@ -1,0 +1,9 @@
+use mathlib.Core.Path.{refl}
+use borrow.Author.Rules.{rules}
+use Rattle.house_index.proofs.value_at.Goals as goal
+
+-- `value_at` meets its contract.
+
+pub returns : goal.returns
+returns c =
+    rw c.place_of.ensures.0 refl

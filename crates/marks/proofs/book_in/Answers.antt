@@ -1,0 +1,11 @@
+use mathlib.Core.Path.{refl}
+use borrow.Author.Rules.{rules}
+use Rattle.book_model.specs.Marks.{book_in_lem}
+use Rattle.marks.proofs.book_in.Goals as goal
+
+-- `book_in` meets its contract.
+
+pub returns : goal.returns
+unfolding book_in_lem
+returns c =
+    refl

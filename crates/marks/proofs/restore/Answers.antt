@@ -1,0 +1,21 @@
+use mathlib.Core.Path.{◌∙◌, ap}
+use Prim.Native.Nat.{ℕ}
+use native.Mathlib.Numerals.{add-one}
+use borrow.Author.Rules.{rules}
+use Rattle.book_model.specs.Marks.{first_marks}
+use Rattle.marks.proofs.restore.Goals as goal
+
+-- `restore` meets its contract.
+
+pub returns : goal.returns
+unfolding first_marks
+returns c =
+    let tables = c.copy_tables.ensures in
+    let a = c.args in
+    let more = ap (λ (n : ℕ). first_marks n a.marks.now) (add-one a.at) in
+    record {
+      equation = c.book_in.ensures;
+      cells = tables.0;
+      index = tables.1;
+      marks = c.clear_from.ensures ∙ rw c.clear_from-arg-1.given.0.1 more;
+    }
