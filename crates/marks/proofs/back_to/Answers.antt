@@ -29,8 +29,8 @@ returns c =
     let r = c.restore-book.ensures in
     record {
       refusal = returned rows a.name found.0 found.2 c.if-at-ge-MOST.false;
-      book = r.0 ∙ ap (λ (k : ℕ). book_in_lem a.b.header (get_or rows k [])) found.0;
-      cells = r.1.0 ∙ ap (λ (k : ℕ). cells_in (get_or rows k [])) found.0;
-      index = r.1.1.0 ∙ ap (λ (k : ℕ). index_in (get_or rows k [])) found.0;
-      marks = r.1.1.1 ∙ ap (λ (k : ℕ). first_marks (suc k) rows) found.0;
+      book = r.equation ∙ ap (λ (k : ℕ). book_in_lem a.b.header (get_or rows k [])) found.0;
+      cells = r.cells ∙ ap (λ (k : ℕ). cells_in (get_or rows k [])) found.0;
+      index = r.index ∙ ap (λ (k : ℕ). index_in (get_or rows k [])) found.0;
+      marks = r.marks ∙ ap (λ (k : ℕ). first_marks (suc k) rows) found.0;
     }

@@ -1,4 +1,6 @@
-use mathlib.Core.Path.{◌∙◌}
+use native.Mathlib.Omega.{arith}
+use lib.ListN.{length}
+use mathlib.Core.Path.{◌≡◌, ◌∙◌}
 use borrow.Author.Rules.{rules}
 use Rattle.book_model.specs.Marks.{no_marks}
 use Rattle.marks.proofs.clear.Goals as goal
@@ -8,4 +10,5 @@ use Rattle.marks.proofs.clear.Goals as goal
 pub returns : goal.returns
 unfolding no_marks
 returns c =
-    c.clear_from.ensures ∙ rw c.clear_from-arg-1.given.0.1
+    let n : length c.args.marks.now ≡ 8 = omega arith in
+    c.clear_from.ensures ∙ rw n

@@ -1,4 +1,6 @@
-use mathlib.Core.Path.{◌∙◌, ap}
+use native.Mathlib.Omega.{arith}
+use lib.ListN.{length}
+use mathlib.Core.Path.{◌≡◌, ◌∙◌, ap}
 use Prim.Native.Nat.{ℕ}
 use native.Mathlib.Numerals.{add-one}
 use borrow.Author.Rules.{rules}
@@ -13,9 +15,10 @@ returns c =
     let tables = c.copy_tables.ensures in
     let a = c.args in
     let more = ap (λ (n : ℕ). first_marks n a.marks.now) (add-one a.at) in
+    let n : length a.marks.now ≡ 8 = omega arith in
     record {
       equation = c.book_in.ensures;
-      cells = tables.0;
-      index = tables.1;
-      marks = c.clear_from.ensures ∙ rw c.clear_from-arg-1.given.0.1 more;
+      cells = tables.cells;
+      index = tables.index;
+      marks = c.clear_from.ensures ∙ rw n more;
     }

@@ -1,3 +1,4 @@
+use native.Mathlib.Omega.{arith}
 use mathlib.Core.Path.{◌∙◌, ap}
 use lib.ListN.{length}
 use borrow.Author.Rules.{rules}
@@ -13,7 +14,7 @@ returns c =
     let none = c.no_row-row in
     let first = c.numbers-first in
     let a = c.args in
-    laid first.result a.cells.now a.index.now none.result c.put.new.0 c.put-2.new.0 c.put-3.new.0
-    (ap length first.ensures) c.put-arg-1.given.0 c.put-arg-2-1.given.0 (ap length none.ensures ∙ no-row-length)
+    laid first.result a.cells.now a.index.now none.result c.put.new.row c.put-2.new.row c.put-3.new.row
+    (ap length first.ensures) (omega arith) (omega arith) (ap length none.ensures ∙ no-row-length)
     c.put.ensures c.put-2.ensures c.put-3.ensures
     ∙ rw first.ensures
