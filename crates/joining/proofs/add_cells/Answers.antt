@@ -1,0 +1,29 @@
+use mathlib.Core.Path.{◌≡◌, refl}
+use Prim.Native.Nat.{ℕ, ◌+◌, ◌-◌, ◌≤◌}
+use native.Mathlib.Omega.{arith}
+use lib.ListN.{length, get_or}
+use borrow.Author.Rules.{rules}
+use Rattle.book_model.specs.Joining.{places, added_cells}
+use Rattle.joining.proofs.Laws.{filled, filled_next, filled-whole}
+use Rattle.joining.proofs.add_cells.Goals as goal
+
+pub loop-i-init : goal.loop-i-init
+unfolding places
+loop-i-init c =
+    (omega arith, refl)
+
+pub overflow_add-sums : goal.overflow_add-sums
+overflow_add-sums c =
+    let i = c.loop-i.i in
+    record { fits = omega (arith, c.requires.0.each i, c.requires.1.each i) }
+
+pub loop-i-preserved : goal.loop-i-preserved
+loop-i-preserved c =
+    let a = c.args in
+    (omega arith, filled_next c.loop-i.sums (λ k. get_or a.first.now k 0 + get_or a.second.now k 0) c.loop-i.i (omega arith) c.loop-i.invariant.1)
+
+pub returns : goal.returns
+unfolding added_cells
+returns c =
+    let a = c.args in
+    filled-whole c.loop-i.sums (λ k. get_or a.first.now k 0 + get_or a.second.now k 0) c.loop-i.i (omega arith) c.loop-i.invariant.1
