@@ -1,0 +1,14 @@
+use borrow.Author.Tests.{eq-eqb, ne_eqb}
+use mathlib.Core.Path.{refl}
+use borrow.Author.Rules.{rules}
+use Rattle.driver.proofs.answered.Goals as goal
+
+-- `answered` meets its contract.
+
+pub returns-then-refusal-eq0 : goal.returns-then-refusal-eq0
+returns-then-refusal-eq0 c =
+    rw (eq-eqb c.args.refusal 0 c.if-refusal-eq0.true) refl
+
+pub returns-else-refusal-eq0 : goal.returns-else-refusal-eq0
+returns-else-refusal-eq0 c =
+    rw (ne_eqb c.args.refusal 0 c.if-refusal-eq0.false) refl
