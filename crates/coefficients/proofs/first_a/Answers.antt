@@ -1,4 +1,3 @@
-use borrow.Author.Rules.{rules}
 use Rattle.coefficients.specs.Integers.{scaled_a}
 use Rattle.coefficients.proofs.first_a.Goals as goal
 

@@ -1,4 +1,3 @@
-use borrow.Author.Rules.{rules}
 use Rattle.coefficients.specs.Integers.{scaled_b}
 use Rattle.coefficients.proofs.first_b.Goals as goal
 

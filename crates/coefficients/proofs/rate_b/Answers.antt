@@ -1,5 +1,4 @@
 use mathlib.Core.Path.{refl}
-use borrow.Author.Rules.{rules}
 use Rattle.coefficients.specs.Integers.{tenths_b}
 use Rattle.coefficients.proofs.rate_b.Goals as goal
 

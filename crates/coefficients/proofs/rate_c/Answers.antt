@@ -1,5 +1,4 @@
 use mathlib.Core.Path.{refl}
-use borrow.Author.Rules.{rules}
 use Rattle.coefficients.specs.Integers.{scaled_c}
 use Rattle.coefficients.proofs.rate_c.Goals as goal
 

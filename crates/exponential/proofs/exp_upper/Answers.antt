@@ -1,6 +1,5 @@
 use Prim.Native.Nat.{◌/◌}
 use mathlib.Core.Path.{refl}
-use borrow.Author.Rules.{rules}
 use native.Mathlib.Omega.{arith}
 use Rattle.exponential.specs.Exponential.{exp_within, exp_upper_lem}
 use Rattle.exponential.proofs.Entries.{entry-bounded}

@@ -1,4 +1,3 @@
-use borrow.Author.Rules.{rules}
 use native.Mathlib.Omega.{arith}
 use Rattle.exponential.specs.Exponential.{lowered}
 use Rattle.exponential.proofs.Steps.{product-most}

@@ -1,6 +1,5 @@
 use Prim.Native.Nat.{ℕ, ◌*◌, ◌≤◌, ◌<◌}
 use native.Mathlib.Omega.{arith}
-use borrow.Author.Rules.{rules}
 use native.Mathlib.Nat.{mul-le-mul_right, div-le_of_le-mul, le_of_lt}
 use Rattle.fixed_point.proofs.division_step.Goals as goal
 

@@ -47,12 +47,12 @@ overflow_add-result-2 c =
 pub overflow_add-result-3 : goal.overflow_add-result-3
 overflow_add-result-3 c =
     omega (
-  arith,
-  high c.args.a c.args.b c.requires.0 c.requires.1,
-  cross c.args.a c.args.b c.requires.0,
-  cross' c.args.b c.args.a c.requires.1,
-  low c.args.a c.args.b,
-)
+      arith,
+      high c.args.a c.args.b c.requires.0 c.requires.1,
+      cross c.args.a c.args.b c.requires.0,
+      cross' c.args.b c.args.a c.requires.1,
+      low c.args.a c.args.b,
+    )
 
 pub returns : goal.returns
 returns c =

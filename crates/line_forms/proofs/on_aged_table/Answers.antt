@@ -1,13 +1,8 @@
-use native.Mathlib.Omega.{arith}
 use Rattle.line_forms.specs.Contents.{on_aged_table_lem}
 use Rattle.line_forms.proofs.HeaderCounts.{nine-tenths}
 use Rattle.line_forms.proofs.on_aged_table.Goals as goal
 
 -- `on_aged_table` meets its contract.
-
-pub overflow_sub-result : goal.overflow_sub-result
-overflow_sub-result c =
-    omega arith
 
 pub returns : goal.returns
 unfolding on_aged_table_lem

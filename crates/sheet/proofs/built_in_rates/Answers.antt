@@ -1,5 +1,4 @@
 use mathlib.Core.Path.{◌∙◌, ap}
-use borrow.Author.Rules.{rules}
 use Rattle.loan_charge.specs.CreditFactor.{rates_of_lem}
 use Rattle.sheet.proofs.Loading.{built_in}
 use Rattle.sheet.proofs.Rules.{passes}

@@ -1,4 +1,3 @@
-use borrow.Author.Rules.{rules}
 use Rattle.sheet.proofs.fill.Goals as goal
 
 -- `fill` meets its contract.

@@ -1,11 +1,6 @@
-use mathlib.Core.Path.{◌≡◌, refl}
+use mathlib.Core.Path.{◌≡◌}
 use Prim.Native.Nat.{◌-◌, ◌≤◌}
-use native.Mathlib.Numerals.{add-one}
-use native.Mathlib.Omega.{arith}
-use lib.ListN.{length}
-use borrow.Author.Rules.{rules}
-use borrow.Author.Tests.{eq-eqb, ne_eqb}
-use Rattle.sheet.specs.Sheet.{places_pass, sheet_passes}
+use Rattle.sheet.specs.Sheet.{places_pass}
 use Rattle.sheet.proofs.passes.Given as goal
 
 -- `passes` meets its contract: after k turns the first k places are tested.

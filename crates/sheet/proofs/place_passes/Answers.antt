@@ -1,5 +1,4 @@
 use mathlib.Core.Path.{refl}
-use borrow.Author.Rules.{rules}
 use Rattle.sheet.specs.Sheet.{place_passes_lem}
 use Rattle.sheet.proofs.place_passes.Goals as goal
 

@@ -1,12 +1,10 @@
 use mathlib.Core.List.{map}
 use mathlib.Core.Path.{◌≡◌, refl, sym, ◌∙◌, ap}
-use Prim.Native.Nat.{◌-◌, ◌≤◌}
 use native.Mathlib.Numerals.{add-one}
 use native.Mathlib.Omega.{arith}
-use lib.ListN.{length, take, length-set}
+use lib.ListN.{length, length-set}
 use lib.Seq.{take_all}
 use Rattle.loan_charge.specs.CreditFactor.{hundredths}
-use Rattle.sheet.specs.Sheet.{SheetRules}
 use Rattle.sheet.proofs.Rules.{rules, filled}
 use Rattle.sheet.proofs.rates_of.Goals as goal
 

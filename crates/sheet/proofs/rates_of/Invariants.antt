@@ -1,13 +1,8 @@
 use mathlib.Core.List.{map}
-use mathlib.Core.Path.{◌≡◌, refl, sym, ◌∙◌, ap}
+use mathlib.Core.Path.{◌≡◌}
 use Prim.Native.Nat.{◌-◌, ◌≤◌}
-use native.Mathlib.Numerals.{add-one}
-use native.Mathlib.Omega.{arith}
-use lib.ListN.{length, take, length-set}
-use lib.Seq.{take_all}
+use lib.ListN.{length, take}
 use Rattle.loan_charge.specs.CreditFactor.{hundredths}
-use Rattle.sheet.specs.Sheet.{SheetRules}
-use Rattle.sheet.proofs.Rules.{rules, filled}
 use Rattle.sheet.proofs.rates_of.Given as goal
 
 -- `rates_of` meets its contract: after k turns the first k rates are those of the sheet.

@@ -1,4 +1,3 @@
-use borrow.Author.Rules.{rules}
 use Rattle.line_forms.specs.Contents.{month_in_range}
 use Rattle.line_forms.proofs.ranges.month.Goals as goal
 

@@ -4,7 +4,6 @@ use Rattle.fixed_point.specs.declared.Signed.{Signed}
 use Rattle.loan_charge.specs.Computation.{times, base_units_lem}
 use Rattle.loan_charge.proofs.Money.{SignedAtMost}
 use Rattle.loan_charge.proofs.Sizes.{sum-most, factor_most}
-use borrow.Author.Rules.{rules}
 use Rattle.loan_charge.proofs.charge.base_units.Goals as goal
 
 -- `charge::base_units` meets its contract: the curves' sum is small enough for the product by m. Assumes nothing.

@@ -6,7 +6,6 @@ use Rattle.fixed_point.specs.declared.Signed.{Signed}
 use Rattle.loan_charge.specs.Computation.{base_units_lem, rate_units_lem, charge_from, charge_of}
 use Rattle.loan_charge.proofs.Money.{SignedAtMost}
 use Rattle.loan_charge.proofs.Sizes.{base-most, rate-units-most}
-use borrow.Author.Rules.{rules}
 use Rattle.loan_charge.proofs.charge.charge.Goals as goal
 
 -- `charge::charge` meets its contract: base and r are in the ranges of what follows. Assumes nothing.

@@ -3,7 +3,6 @@ use Rattle.loan_charge.specs.declared.charge.Heights.{Heights}
 use Rattle.loan_charge.specs.Computation.{weighted}
 use Rattle.loan_charge.proofs.Money.{AtMostOne}
 use Rattle.loan_charge.proofs.Sizes.{heights-small}
-use borrow.Author.Rules.{rules}
 use Rattle.loan_charge.proofs.charge.curve_units.Goals as goal
 
 -- `charge::curve_units` meets its contract. Assumes nothing.

@@ -7,7 +7,6 @@ use Rattle.fixed_point.specs.declared.Signed.{Signed}
 use Rattle.loan_charge.specs.Computation.{curves_sum_lem, a_units, b_units}
 use Rattle.loan_charge.proofs.Money.{SignedAtMost}
 use Rattle.loan_charge.proofs.Sizes.{months-in, ratio-most, usable-a, usable-b, curve-is, a-most, b_most}
-use borrow.Author.Rules.{rules}
 use Rattle.loan_charge.proofs.charge.curves_at.Goals as goal
 
 -- `charge::curves_at` meets its contract: z and the coefficients are in their ranges, and A and B are small enough for their sum. Assumes nothing.

@@ -1,6 +1,5 @@
 use Rattle.loan_charge.specs.Computation.{curves_sum_lem}
 use Rattle.loan_charge.proofs.Money.{amounts}
-use borrow.Author.Rules.{rules}
 use Rattle.loan_charge.proofs.charge.curves_sum.Goals as goal
 
 -- `charge::curves_sum` meets its contract. Assumes nothing.

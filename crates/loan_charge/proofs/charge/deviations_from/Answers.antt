@@ -3,7 +3,6 @@ use Prim.Native.Nat.{ℕ, ◌*◌, ◌/◌}
 use native.Mathlib.Omega.{arith}
 use Rattle.loan_charge.specs.Computation.{distance, deviations}
 use Rattle.loan_charge.proofs.Gauss.{distance-bound}
-use borrow.Author.Rules.{rules}
 use Rattle.loan_charge.proofs.charge.deviations_from.Goals as goal
 
 pub overflow_mul-result : goal.overflow_mul-result

@@ -4,7 +4,6 @@ use native.Mathlib.Omega.{arith}
 use Rattle.loan_charge.specs.Computation.{exponent}
 use Rattle.fixed_point.specs.Quotient.{scaled_product_lem}
 use Rattle.loan_charge.proofs.Gauss.{deviations-bound}
-use borrow.Author.Rules.{rules}
 use Rattle.loan_charge.proofs.charge.exponent_of.Goals as goal
 
 pub scaled_product-requires : goal.scaled_product-requires

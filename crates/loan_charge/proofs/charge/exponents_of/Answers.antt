@@ -1,6 +1,5 @@
 use Rattle.loan_charge.proofs.Sizes.{two-exponents}
 use Rattle.loan_charge.specs.Computation.{exponents}
-use borrow.Author.Rules.{rules}
 use Rattle.loan_charge.proofs.charge.exponents_of.Goals as goal
 
 pub returns : goal.returns

@@ -1,6 +1,5 @@
 use Rattle.loan_charge.proofs.Sizes.{two-heights}
 use Rattle.loan_charge.specs.Computation.{heights_at_lem}
-use borrow.Author.Rules.{rules}
 use Rattle.loan_charge.proofs.charge.heights_at.Goals as goal
 
 pub returns : goal.returns

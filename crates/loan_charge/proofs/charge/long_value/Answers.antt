@@ -1,6 +1,5 @@
 use native.Mathlib.Nat.{mod-lt}
 use Rattle.loan_charge.proofs.ScaledValue.{whole-most, whole-between}
-use borrow.Author.Rules.{rules}
 use Rattle.loan_charge.proofs.charge.long_value.Goals as goal
 
 -- `charge::long_value` meets its contract: the division begun by the whole part of p / q. Assumes nothing.

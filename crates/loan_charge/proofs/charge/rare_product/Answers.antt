@@ -1,7 +1,6 @@
 use native.Mathlib.Omega.{arith}
 use Prim.Native.Nat.{ℕ, ◌*◌}
 use mathlib.Core.Path.{ap}
-use borrow.Author.Rules.{rules}
 use Rattle.loan_charge.proofs.charge.rare_product.Goals as goal
 
 -- `charge::rare_product` meets its contract: 0 times a number is 0. Assumes nothing.

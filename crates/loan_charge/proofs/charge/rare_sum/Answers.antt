@@ -2,7 +2,6 @@ use native.Mathlib.Omega.{arith}
 use Prim.Native.Nat.{ℕ, ◌*◌}
 use mathlib.Core.Path.{◌≡◌, ap}
 use Rattle.loan_charge.specs.Computation.{scaled_sum_lem}
-use borrow.Author.Rules.{rules}
 use Rattle.loan_charge.proofs.charge.rare_sum.Goals as goal
 
 -- `charge::rare_sum` meets its contract: 0 and 0 give 0. Assumes nothing.

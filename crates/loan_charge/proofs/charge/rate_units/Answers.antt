@@ -6,7 +6,6 @@ use Rattle.coefficients.proofs.CoefficientLaws.{scaled-c, tenths-b}
 use Rattle.loan_charge.specs.Computation.{rate_units_lem}
 use Rattle.loan_charge.proofs.ScaledValue.{held}
 use Rattle.loan_charge.proofs.Sizes.{months-in}
-use borrow.Author.Rules.{rules}
 use Rattle.loan_charge.proofs.charge.rate_units.Goals as goal
 
 -- `charge::rate_units` meets its contract: z, c, b and the exponential are in their ranges. Assumes nothing.

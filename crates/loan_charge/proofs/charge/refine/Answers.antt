@@ -1,6 +1,5 @@
 use native.Mathlib.Omega.{arith}
 use Rattle.loan_charge.proofs.ScaledValue.{begun, step_fits, begun-bound, quotient_is, step₁, step₂, step₃, step₄, step₅}
-use borrow.Author.Rules.{rules}
 use Rattle.loan_charge.proofs.charge.refine.Goals as goal
 
 -- `charge::refine` meets its contract: each step of the long division fits. Assumes nothing.

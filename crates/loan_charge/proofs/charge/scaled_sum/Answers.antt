@@ -4,7 +4,6 @@ use mathlib.Core.Path.{sym}
 use native.Mathlib.Nat.{div-add-mod'}
 use Rattle.loan_charge.proofs.Money.{high_part, low_part, parts-sum}
 use Rattle.loan_charge.specs.Computation.{scaled_sum_lem}
-use borrow.Author.Rules.{rules}
 use Rattle.loan_charge.proofs.charge.scaled_sum.Goals as goal
 
 -- `charge::scaled_sum` meets its contract: each product of a part is bounded, and together they are the quotient. Assumes nothing.

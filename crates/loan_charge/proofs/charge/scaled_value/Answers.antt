@@ -1,5 +1,4 @@
 use Rattle.loan_charge.proofs.ScaledValue.{value_least}
-use borrow.Author.Rules.{rules}
 use Rattle.loan_charge.proofs.charge.scaled_value.Goals as goal
 
 -- `charge::scaled_value` meets its contract: below 1, and the two ways of dividing. Assumes nothing.

@@ -1,6 +1,5 @@
 use native.Mathlib.Omega.{arith}
 use Rattle.loan_charge.proofs.ScaledValue.{value_most, value-between, multiplied, multiplied-step, step_fits}
-use borrow.Author.Rules.{rules}
 use Rattle.loan_charge.proofs.charge.short_value.Goals as goal
 
 -- `charge::short_value` meets its contract: one step of a division begun by 960000 p. Assumes nothing.

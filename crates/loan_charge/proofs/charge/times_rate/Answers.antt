@@ -1,6 +1,5 @@
 use Rattle.loan_charge.specs.Computation.{times}
 use Rattle.loan_charge.proofs.Money.{amounts}
-use borrow.Author.Rules.{rules}
 use Rattle.loan_charge.proofs.charge.times_rate.Goals as goal
 
 -- `charge::times_rate` meets its contract. Assumes nothing.

@@ -4,7 +4,6 @@ use Rattle.loan_charge.proofs.Sizes.{numbers, supplement-most}
 use Rattle.fixed_point.specs.declared.Signed.{Signed}
 use Rattle.loan_charge.specs.Computation.{rounded_up_lem, rounded_down_lem, charge_from}
 use Rattle.loan_charge.proofs.Money.{SignedAtMost}
-use borrow.Author.Rules.{rules}
 use Rattle.loan_charge.proofs.charge.with_supplement.Goals as goal
 
 pub rounded_up-requires : goal.rounded_up-requires

@@ -1,7 +1,6 @@
 use native.Mathlib.Omega.{arith}
 use Rattle.loan_charge.specs.Computation.{signed}
 use Rattle.loan_charge.proofs.Money.{amounts}
-use borrow.Author.Rules.{rules}
 use Rattle.loan_charge.proofs.charge.without_offset.Goals as goal
 
 pub returns-then-t-lt-OFFSET : goal.returns-then-t-lt-OFFSET

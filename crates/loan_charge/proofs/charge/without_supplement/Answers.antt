@@ -1,7 +1,6 @@
 use mathlib.Core.Path.{refl}
 use Rattle.loan_charge.proofs.Sizes.{numbers}
 use Rattle.loan_charge.specs.Computation.{charge_from}
-use borrow.Author.Rules.{rules}
 use Rattle.loan_charge.proofs.charge.without_supplement.Goals as goal
 
 pub returns : goal.returns

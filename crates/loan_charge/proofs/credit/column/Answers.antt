@@ -1,4 +1,3 @@
-use borrow.Author.Rules.{rules}
 use Rattle.loan_charge.specs.Computation.{limits, reached_of}
 use Rattle.loan_charge.specs.CreditFactor.{column, count}
 use Rattle.loan_charge.proofs.credit.column.Goals as goal

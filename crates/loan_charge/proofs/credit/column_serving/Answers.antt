@@ -1,6 +1,5 @@
 use native.Mathlib.Omega.{arith}
 use Rattle.loan_charge.specs.CreditFactor.{column_serving_lem}
-use borrow.Author.Rules.{rules}
 use Rattle.loan_charge.proofs.credit.column_serving.Goals as goal
 
 -- By whether scores count as aged.

@@ -1,5 +1,4 @@
 use Rattle.loan_charge.specs.CreditFactor.{credit_factor_lem}
-use borrow.Author.Rules.{rules}
 use Rattle.loan_charge.proofs.credit.credit_factor.Goals as goal
 
 -- By the two kinds of score.

@@ -1,7 +1,6 @@
 use Prim.Native.Nat.{◌-◌}
 use native.Mathlib.Nat.{div-le_self}
 use native.Mathlib.Omega.{arith}
-use borrow.Author.Rules.{rules}
 use Rattle.loan_charge.proofs.CreditLaws.{none-reached, some-reached}
 use Rattle.loan_charge.proofs.credit.reached.Goals as goal
 

@@ -1,5 +1,4 @@
 use Rattle.loan_charge.specs.CreditFactor.{scored_factor_lem}
-use borrow.Author.Rules.{rules}
 use Rattle.loan_charge.proofs.credit.scored_factor.Goals as goal
 
 -- The rate at the place of band and column.
