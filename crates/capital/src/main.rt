@@ -3,7 +3,7 @@
 // after these, it reads the books of those files, and prints the report of them joined.
 #![tactic(auto)]
 
-ghost use Rattle.std.specs.Prelude.{false, ◌≡◌, ◌+◌, ◌-◌, ◌^◌, ◌≤◌, ◌<◌, length};
+ghost use Rattle.std.specs.Prelude.{false, ◌≡◌, ◌+◌, ◌-◌, ◌^◌, ◌≤◌, ◌<◌, length, IfSome};
 ghost use Rattle.loan_charge.specs.Tables.{exponentials};
 ghost use Rattle.book_model.specs.Calls.{state_at, lacks_lines, report_size, cells_size, Sound};
 ghost use Rattle.book_model.specs.Marks.{no_marks};
@@ -20,15 +20,25 @@ use loan_charge::charge::Exponentials;
 use loan_charge::credit::Rates;
 use marks::Marks;
 use sheet_file::{Numbers, Room};
+use std::env::{Env, FillError};
+use std::io::Read;
+use std::rt::{Files, Runtime};
+use std::{fs, io};
 
 // The reads are counted, since nothing says that the input ends: no run uses up so many.
 const MOST_READS: usize = 1099511627776;
 
+// Room for one read.
+const READ: usize = 65536;
+
 // Room for a report, 512 bytes, and for the table of cells, 8,192.
 const OUT: usize = 8704;
 
+// Room for the name of a file: the system knows no longer one.
+const NAME: usize = 4096;
+
 // A run after a read of so many bytes. `more` where the input may go on, `failed` where a read failed.
-#[derive(Drop)]
+#[derive(Clone, Copy)]
 struct Turn {
     run: Run,
     count: usize,
@@ -38,7 +48,7 @@ struct Turn {
 
 // One read, and what it gave. Nothing more is read after a refusal, nor of a line that is already too long.
 fn read_once(
-    fd: i32,
+    input: &mut impl Read,
     run: Run,
     exps: &Exponentials,
     sheet: &[u64],
@@ -57,16 +67,14 @@ fn read_once(
         marks.new) result.count
         result.more result.failed }
 {
-    let got = libc::read(fd, buf);
-    if got < 0 {
+    let Ok(n) = input.read(buf) else {
         return Turn {
             run,
             count: 0,
             more: false,
             failed: true,
         };
-    }
-    let n = io::count(got, buf);
+    };
     let next = driver::step(run, exps, sheet, rates, cells, index, marks, &buf[0..n]);
     let p = next.progress;
     let more = (0 < n) & (p.refusal == 0) & (next.held <= line_forms::LONGEST_LINE);
@@ -78,9 +86,9 @@ fn read_once(
     }
 }
 
-// Reads an open file to its end.
+// Reads an input to its end.
 fn read_all(
-    fd: i32,
+    input: &mut impl Read,
     exps: &Exponentials,
     sheet: &[u64],
     rates: &mut Rates,
@@ -101,7 +109,7 @@ fn read_all(
     let mut run = driver::start(rates, cells, index, marks);
     let mut turns = MOST_READS;
     while 0 < turns {
-        let turn = read_once(fd, run, exps, sheet, rates, cells, index, marks, buf);
+        let turn = read_once(input, run, exps, sheet, rates, cells, index, marks, buf);
         if !turn.more {
             return turn;
         }
@@ -117,7 +125,7 @@ fn read_all(
 }
 
 // How many bytes are to be written, and whether a read failed.
-#[derive(Drop)]
+#[derive(Clone, Copy)]
 struct Output {
     count: usize,
     failed: bool,
@@ -125,7 +133,7 @@ struct Output {
 
 // Reads a book to its end, under a sheet of factors, and leaves in the buffer what is to be printed of it, with the table of cells where it is
 // asked for.
-fn answer(asked: bool, sheet: &[u64], out: &mut [u8]) -> Output
+fn answer(rt: &impl Input, asked: bool, sheet: &[u64], out: &mut [u8]) -> Output
     requires { report_size + cells_size ≤ length out.old }
     ensures { Answered asked sheet.now out.old result out.new }
 {
@@ -134,9 +142,16 @@ fn answer(asked: bool, sheet: &[u64], out: &mut [u8]) -> Output
     let mut cells = [0u64; cell_report::PLACES];
     let mut index = [0u64; house_index::PLACES];
     let mut marks = marks::none();
-    let mut buf = io::large_buffer();
+    let mut buf = [0u8; READ];
     let turn = read_all(
-        0, &exps, sheet, &mut rates, &mut cells, &mut index, &mut marks, &mut buf,
+        &mut rt.reader(),
+        &exps,
+        sheet,
+        &mut rates,
+        &mut cells,
+        &mut index,
+        &mut marks,
+        &mut buf,
     );
     if turn.failed {
         return Output {
@@ -154,15 +169,96 @@ fn answer(asked: bool, sheet: &[u64], out: &mut [u8]) -> Output
     }
 }
 
+// The bytes of this argument, put at the start of the buffer: none where there is no such argument, or one with more bytes.
+fn argument(rt: &impl Env, at: usize, buf: &mut [u8]) -> usize
+    ensures { result ≤ length buf.new }
+{
+    match rt.arg(at, buf) {
+        Ok(n) => n,
+        Err(_) => 0,
+    }
+}
+
+// How many arguments the program has, its name among them.
+fn count_arguments(rt: &impl Env) -> usize {
+    let mut start = [0u8; 1];
+    for i in 0..usize::MAX {
+        if let Err(FillError::NotPresent) = rt.arg(i, &mut start) {
+            return i;
+        }
+    }
+    usize::MAX
+}
+
+// Opens the file that is named by this argument.
+fn open_argument<R: Env + Files>(rt: &R, file: usize) -> io::Result<R::File> {
+    let mut name = [0u8; NAME];
+    let n = argument(rt, file, &mut name);
+    match std::str::from_utf8(&name[0..n]) {
+        Ok(path) => fs::open(rt, path),
+        Err(_) => Err(io::Error::other("its name is no text in UTF-8")),
+    }
+}
+
+// The same; where it cannot be opened, it is said why, after these words.
+fn open<R: Runtime>(rt: &R, file: usize, what: &str) -> Option<R::File> {
+    match open_argument(rt, file) {
+        Ok(file) => Some(file),
+        Err(error) => {
+            tell(rt, what, error);
+            None
+        }
+    }
+}
+
+// Says what failed and why: the system's words, without the number of the error, which std adds to them.
+fn tell(rt: &(impl Eprint + Alloc), what: &str, error: io::Error) {
+    let Ok(text) = format!(in rt.alloc(); "{error}") else {
+        let _ = eprintln!(rt; "{what}: {error}");
+        return;
+    };
+    let reason = match text.as_str().split_once(" (os error ") {
+        Some((reason, _)) => reason,
+        None => text.as_str(),
+    };
+    let _ = eprintln!(rt; "{what}: {reason}");
+}
+
 // What the lines of a file gave; `failed` where it could not be read to its end.
-#[derive(Drop)]
+#[derive(Clone, Copy)]
 struct Region {
     progress: Progress,
     failed: bool,
 }
 
-// Reads the book of the file that is named by this argument to its end. A file that cannot be opened has no descriptor, and reading it fails.
+// Reads a book to its end.
+fn read_book(
+    input: &mut impl Read,
+    exps: &Exponentials,
+    sheet: &[u64],
+    rates: &mut Rates,
+    cells: &mut Cells,
+    index: &mut Index,
+    marks: &mut Marks,
+    buf: &mut [u8],
+) -> Region
+    requires { (exps.now ≡ exponentials) × (length buf.old ≡ 65536) }
+    ensures read { FileRead sheet.now (stage_at result.progress sheet.now rates.new cells.new index.new
+        marks.new) result.failed }
+    ensures sound { Sound (state_at result.progress.book rates.new cells.new index.new marks.new) }
+{
+    let turn = read_all(input, exps, sheet, rates, cells, index, marks, buf);
+    let run = turn.run;
+    let progress = driver::end_input(run, exps, sheet, rates, cells, index, marks);
+    Region {
+        progress,
+        failed: turn.failed,
+    }
+}
+
+// Reads the book of the file that is named by this argument to its end. Of a file that cannot be opened nothing is read.
 fn read_file(
+    rt: &impl Runtime,
     file: usize,
     exps: &Exponentials,
     sheet: &[u64],
@@ -177,24 +273,21 @@ fn read_file(
         marks.new) result.failed }
     ensures sound { Sound (state_at result.progress.book rates.new cells.new index.new marks.new) }
 {
-    let mut name = io::buffer();
-    let n = os::arg(file, &mut name);
-    let fd = os::open_read(&name[0..n]);
-    if fd < 0 {
-        os::fail(b"capital: opening a book");
-    }
-    let turn = read_all(fd, exps, sheet, rates, cells, index, marks, buf);
-    libc::close(fd);
-    let run = turn.run;
-    let progress = driver::end_input(run, exps, sheet, rates, cells, index, marks);
-    Region {
-        progress,
-        failed: turn.failed,
+    match open(rt, file, "capital: opening a book") {
+        Some(mut book) => read_book(&mut book, exps, sheet, rates, cells, index, marks, buf),
+        None => {
+            let none = &mut io::empty();
+            let region = read_book(none, exps, sheet, rates, cells, index, marks, buf);
+            Region {
+                progress: region.progress,
+                failed: true,
+            }
+        }
     }
 }
 
 // What one more file made of the book of those before it: `done` where something is to be printed, or a read failed.
-#[derive(Drop)]
+#[derive(Clone, Copy)]
 struct Step {
     book: Book,
     count: usize,
@@ -204,6 +297,7 @@ struct Step {
 
 // The book of one more file is joined to that of those before it, of which the tables are lent.
 fn join_next(
+    rt: &impl Runtime,
     total: Book,
     rates: &mut Rates,
     cells: &mut Cells,
@@ -226,6 +320,7 @@ fn join_next(
     let mut own_index = [0u64; house_index::PLACES];
     let mut marks = marks::none();
     let region = read_file(
+        rt,
         file,
         exps,
         sheet,
@@ -278,6 +373,7 @@ fn join_next(
 
 // The books of files from this argument on are joined in turn to that of the first, of which the tables are lent.
 fn join_all(
+    rt: &impl Runtime,
     first: Book,
     rates: &mut Rates,
     cells: &mut Cells,
@@ -300,7 +396,7 @@ fn join_all(
     let mut number = 2;
     while file < arguments {
         let step = join_next(
-            total, rates, cells, index, file, number, exps, sheet, buf, asked, out,
+            rt, total, rates, cells, index, file, number, exps, sheet, buf, asked, out,
         );
         if step.done {
             return Output {
@@ -321,7 +417,14 @@ fn join_all(
 }
 
 // Reads the books of the files from this argument on, joins them from the first on, and leaves in the buffer what is to be printed of them.
-fn answer_files(from: usize, arguments: usize, asked: bool, sheet: &[u64], out: &mut [u8]) -> Output
+fn answer_files(
+    rt: &impl Runtime,
+    from: usize,
+    arguments: usize,
+    asked: bool,
+    sheet: &[u64],
+    out: &mut [u8],
+) -> Output
     requires { (1 ≤ from) × (from < arguments) × (report_size + cells_size ≤ length out.old) }
     ensures { AnsweredFiles asked sheet.now (arguments - from) out.old result out.new }
 {
@@ -330,9 +433,9 @@ fn answer_files(from: usize, arguments: usize, asked: bool, sheet: &[u64], out: 
     let mut cells = [0u64; cell_report::PLACES];
     let mut index = [0u64; house_index::PLACES];
     let mut marks = marks::none();
-    let mut buf = io::large_buffer();
+    let mut buf = [0u8; READ];
     let region = read_file(
-        from, &exps, sheet, &mut rates, &mut cells, &mut index, &mut marks, &mut buf,
+        rt, from, &exps, sheet, &mut rates, &mut cells, &mut index, &mut marks, &mut buf,
     );
     if region.failed {
         return Output {
@@ -350,6 +453,7 @@ fn answer_files(from: usize, arguments: usize, asked: bool, sheet: &[u64], out: 
         };
     }
     join_all(
+        rt,
         first,
         &mut rates,
         &mut cells,
@@ -365,62 +469,98 @@ fn answer_files(from: usize, arguments: usize, asked: bool, sheet: &[u64], out: 
 }
 
 // What is asked for by the words, where the program has so many arguments: of standard input, or of the files that they name.
-fn answer_words(words: Words, arguments: usize, sheet: &[u64], out: &mut [u8]) -> Output
+fn answer_words(
+    rt: &impl Runtime,
+    words: Words,
+    arguments: usize,
+    sheet: &[u64],
+    out: &mut [u8],
+) -> Output
     requires { FilesNamed words arguments × (report_size + cells_size ≤ length out.old) }
     ensures { AnsweredWords words arguments sheet.now out.old result out.new }
 {
     if words.files == 0 {
-        return answer(words.cells, sheet, out);
+        return answer(rt, words.cells, sheet, out);
     }
-    answer_files(words.files, arguments, words.cells, sheet, out)
+    answer_files(rt, words.files, arguments, words.cells, sheet, out)
+}
+
+// Says it on standard error. Where that cannot be written either, there is nobody to tell.
+fn say(rt: &impl Eprint, sentence: &str) {
+    let _ = rt.eprintln(sentence);
 }
 
 // Prints it.
-fn print(words: Words, arguments: usize, sheet: &[u64])
+fn print(rt: &impl Runtime, words: Words, arguments: usize, sheet: &[u64])
     requires { FilesNamed words arguments }
 {
     let mut out = [0u8; OUT];
-    let done = answer_words(words, arguments, sheet, &mut out);
+    let done = answer_words(rt, words, arguments, sheet, &mut out);
     if done.failed {
         if words.files == 0 {
-            io::write_all(2, b"capital: reading standard input failed\n");
+            say(rt, "capital: reading standard input failed");
         } else {
-            io::write_all(2, b"capital: reading a book failed\n");
+            say(rt, "capital: reading a book failed");
         }
         return;
     }
     let n = done.count;
-    if !io::write_all(1, &out[0..n]) {
-        io::write_all(2, b"capital: writing standard output failed\n");
+    if rt.write_all(&out[0..n]).is_err() {
+        say(rt, "capital: writing standard output failed");
     }
 }
 
-// The numbers of a file of credit factors. `good` where it could be read to its end and is a list of numbers; if not, it is said why.
-fn read_sheet(path: &[u8], out: &mut Room) -> Numbers
+// Reads until the buffer is full or the input ends; nothing where a read failed.
+fn fill(input: &mut impl Read, buf: &mut [u8]) -> Option<usize>
+    ensures { IfSome result (λ n. n ≤ length buf.new) }
+{
+    let mut done = 0;
+    while done < buf.len() {
+        let Ok(n) = input.read(&mut buf[done..]) else {
+            return None;
+        };
+        if n == 0 {
+            break;
+        }
+        done += n;
+    }
+    Some(done)
+}
+
+// Reads an input to its end; nothing where a read failed, or where it is longer than the buffer.
+fn read_whole(input: &mut impl Read, buf: &mut [u8]) -> Option<usize>
+    ensures { IfSome result (λ n. n ≤ length buf.new) }
+{
+    let n = fill(input, buf)?;
+    let mut next = [0u8; 1];
+    match input.read(&mut next) {
+        Ok(0) => Some(n),
+        _ => None,
+    }
+}
+
+// The numbers of a file of credit factors, that is named by this argument. `good` where it could be read to its end and is a list of numbers; if not,
+// it is said why.
+fn read_sheet(rt: &impl Runtime, file: usize, out: &mut Room) -> Numbers
     ensures read { SheetRead result out.new }
     ensures few { result.count ≤ length out.new }
 {
-    let fd = os::open_read(path);
-    if fd < 0 {
-        os::fail(b"capital: opening the sheet");
+    let Some(mut sheet) = open(rt, file, "capital: opening the sheet") else {
         return no_numbers();
-    }
-    let mut buf = io::large_buffer();
-    let n = io::read_full(fd, &mut buf);
-    let mut next = [0u8; 1];
-    if libc::read(fd, &mut next) != 0 {
-        io::write_all(
-            2,
-            b"capital: the sheet could not be read, or is too long to be one\n",
+    };
+    let mut buf = [0u8; READ];
+    let Some(n) = read_whole(&mut sheet, &mut buf) else {
+        say(
+            rt,
+            "capital: the sheet could not be read, or is too long to be one",
         );
         return no_numbers();
-    }
-    libc::close(fd);
+    };
     let numbers = sheet_file::numbers_in(&buf[0..n], out);
     if !numbers.good {
-        io::write_all(
-            2,
-            b"capital: the sheet is no list of whole numbers with one space or line end after each\n",
+        say(
+            rt,
+            "capital: the sheet is no list of whole numbers with one space or line end after each",
         );
     }
     numbers
@@ -436,22 +576,20 @@ fn no_numbers() -> Numbers
 }
 
 // The same under the sheet of the file that is named by this argument.
-fn print_under(words: Words, arguments: usize)
+fn print_under(rt: &impl Runtime, words: Words, arguments: usize)
     requires { FilesNamed words arguments }
 {
-    let mut name = io::buffer();
-    let n = os::arg(words.sheet, &mut name);
     let mut room = [0u64; sheet_file::MOST];
-    let numbers = read_sheet(&name[0..n], &mut room);
+    let numbers = read_sheet(rt, words.sheet, &mut room);
     if numbers.good {
         let count = numbers.count;
-        print(words, arguments, &room[0..count]);
+        print(rt, words, arguments, &room[0..count]);
     }
 }
 
 // What the words after the program's name ask for: `next` is the first that is not yet understood, `sheet` the one that names a sheet and
 // `files` the first that names a book to be joined, 0 for none.
-#[derive(Drop)]
+#[derive(Clone, Copy)]
 struct Words {
     cells: bool,
     sheet: usize,
@@ -495,7 +633,7 @@ fn understood(words: Words, word: &[u8], more: bool) -> Words
 }
 
 // The next word is read, where the program has so many arguments. One of more than 16 bytes is none that is understood.
-fn read_word(words: Words, arguments: usize) -> Words
+fn read_word(rt: &impl Env, words: Words, arguments: usize) -> Words
     requires { (words.next < 2 ^ 32) × FilesNamed words arguments }
     ensures { (result.next ≤ words.next + 2) × FilesNamed result arguments }
 {
@@ -504,32 +642,32 @@ fn read_word(words: Words, arguments: usize) -> Words
         return words;
     }
     let mut word = [0u8; 16];
-    let n = os::arg(at, &mut word);
+    let n = argument(rt, at, &mut word);
     understood(words, &word[0..n], at + 1 < arguments)
 }
 
-fn main() {
-    let arguments = os::arg_count();
+fn main(rt: HostRuntime) {
+    let arguments = count_arguments(&rt);
     let none = Words {
         cells: false,
         sheet: 0,
         files: 0,
         next: 1,
     };
-    let first = read_word(none, arguments);
-    let second = read_word(first, arguments);
-    let words = read_word(second, arguments);
+    let first = read_word(&rt, none, arguments);
+    let second = read_word(&rt, first, arguments);
+    let words = read_word(&rt, second, arguments);
     if (words.files == 0) & (words.next < arguments) {
-        io::write_all(
-            2,
-            b"capital: the words that can follow are cells, for the table of loans, sheet FILE, for credit factors of your own, and join FILE .., for books to be joined\n",
+        say(
+            &rt,
+            "capital: the words that can follow are cells, for the table of loans, sheet FILE, for credit factors of your own, and join FILE .., for books to be joined",
         );
         return;
     }
     if words.sheet != 0 {
-        print_under(words, arguments);
+        print_under(&rt, words, arguments);
         return;
     }
     let sheet = sheet::built_in();
-    print(words, arguments, &sheet);
+    print(&rt, words, arguments, &sheet);
 }

@@ -4,23 +4,27 @@
 ghost use Rattle.std.specs.Prelude.{◌≡◌, ◌+◌, ◌<◌, ◌≤◌, length};
 
 use fixed_point::Signed;
+use std::io::{Print, Read};
+
+// Room for a block of the input.
+pub const BLOCK: usize = 65536;
 
 // What was read: `count` bytes at the start of the buffer. `failed` where a read failed.
-#[derive(Drop)]
+#[derive(Clone, Copy)]
 pub struct Input {
     pub failed: bool,
     pub count: usize,
 }
 
 // A number of the input and the position after it.
-#[derive(Drop)]
+#[derive(Clone, Copy)]
 pub struct Number {
     pub value: u64,
     pub next: usize,
 }
 
 // The least and the greatest number allowed, and the position after them.
-#[derive(Drop)]
+#[derive(Clone, Copy)]
 pub struct Range {
     pub least: Signed,
     pub greatest: Signed,
@@ -28,21 +32,21 @@ pub struct Range {
 }
 
 // Whether a case came out as it should, and the position of the next.
-#[derive(Drop)]
+#[derive(Clone, Copy)]
 pub struct Tried {
     pub ok: bool,
     pub next: usize,
 }
 
 // How many cases came out as they should, and how many not.
-#[derive(Drop)]
+#[derive(Clone, Copy)]
 pub struct Tally {
     pub within: u64,
     pub outside: u64,
 }
 
 // The tally so far, and whether the input goes on.
-#[derive(Drop)]
+#[derive(Clone, Copy)]
 pub struct Block {
     pub more: bool,
     pub tally: Tally,
@@ -60,40 +64,39 @@ pub fn first_block() -> Block {
 }
 
 // One read into `buf`: no byte at the end of the input.
-fn read_once(buf: &mut [u8]) -> Input
+fn read_once(input: &mut impl Read, buf: &mut [u8]) -> Input
     ensures count_in_bounds { result.count ≤ length buf.old }
     ensures buf_len_unchanged { length buf.new ≡ length buf.old }
 {
-    let got = libc::read(0, buf);
-    if got < 0 {
-        return Input {
+    match input.read(buf) {
+        Ok(count) => Input {
+            failed: false,
+            count,
+        },
+        Err(_) => Input {
             failed: true,
             count: 0,
-        };
-    }
-    Input {
-        failed: false,
-        count: io::count(got, buf),
+        },
     }
 }
 
 // The same into `buf` from `at` on.
-fn read_after(buf: &mut [u8], at: usize) -> Input
+fn read_after(input: &mut impl Read, buf: &mut [u8], at: usize) -> Input
     requires { at ≤ length buf.old }
     ensures count_in_bounds { at + result.count ≤ length buf.old }
     ensures buf_len_unchanged { length buf.new ≡ length buf.old }
 {
-    read_once(&mut buf[at..])
+    read_once(input, &mut buf[at..])
 }
 
-// Reads standard input into `buf` until it is full or the input ends.
-pub fn read_input(buf: &mut [u8]) -> Input
+// Reads into `buf` until it is full or the input ends.
+pub fn read_input(input: &mut impl Read, buf: &mut [u8]) -> Input
     ensures count_in_bounds { result.count ≤ length buf.new }
     ensures buf_len_unchanged { length buf.new ≡ length buf.old }
 {
     let mut at = 0;
     while at < buf.len() {
-        let got = read_after(buf, at);
+        let got = read_after(input, buf, at);
         if got.failed {
             return Input {
                 failed: true,
@@ -209,11 +212,21 @@ pub fn at_most(x: Signed, y: Signed) -> bool {
     x.plus + y.minus <= y.plus + x.minus
 }
 
+// Prints the bytes. A test is judged by what it printed, so it goes on where nothing can be written.
+pub fn put(out: &impl Print, bytes: &[u8]) {
+    let _ = out.write_all(bytes);
+}
+
+// The same of a number, in decimal digits.
+pub fn put_number(out: &impl Print, n: u64) {
+    let _ = out.print(n);
+}
+
 // Prints the case, unless it came out as it should.
-pub fn print_unless(ok: bool, case: &[u8]) {
+pub fn print_unless(out: &impl Print, ok: bool, case: &[u8]) {
     if !ok {
-        io::write_all(1, b"outside ");
-        io::write_all(1, case);
+        put(out, b"outside ");
+        put(out, case);
     }
 }
 
@@ -229,9 +242,9 @@ pub fn counted(t: Tally, ok: bool) -> Tally {
 }
 
 // The last line of a test's output.
-pub fn print_tally(t: Tally) {
-    io::print_decimal(1, t.within);
-    io::write_all(1, b" within, ");
-    io::print_decimal(1, t.outside);
-    io::write_all(1, b" outside\n");
+pub fn print_tally(out: &impl Print, t: Tally) {
+    put_number(out, t.within);
+    put(out, b" within, ");
+    put_number(out, t.outside);
+    put(out, b" outside\n");
 }

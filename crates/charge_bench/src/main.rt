@@ -9,6 +9,7 @@ use cases::Range;
 use fixed_point::Signed;
 use loan_charge::LoanInputs;
 use loan_charge::charge::{Exponentials, LoanCharge};
+use std::io::Print;
 
 // The number after x of a sequence of numbers below 2^31 - 1, by which the loans differ.
 fn next(x: u64) -> u64
@@ -62,11 +63,9 @@ fn charge_all(count: u64, table: &Exponentials) -> LoanCharge
         supplement: Signed { plus: 0, minus: 0 },
     };
     let mut x = 1;
-    let mut left = count;
-    while 0 < left {
+    for _ in 0..count {
         sums = add_charge(sums, charge_of(x, table));
         x = next(x);
-        left = left - 1;
     }
     sums
 }
@@ -75,18 +74,18 @@ fn is_within(x: Signed, range: Range) -> bool {
     cases::at_most(range.least, x) & cases::at_most(x, range.greatest)
 }
 
-fn print_answer(count: u64, ok: bool) {
-    io::print_decimal(1, count);
+fn print_answer(out: &impl Print, count: u64, ok: bool) {
+    cases::put_number(out, count);
     if ok {
-        io::write_all(1, b" loans, both sums within\n");
+        cases::put(out, b" loans, both sums within\n");
     } else {
-        io::write_all(1, b" loans, a sum outside\n");
+        cases::put(out, b" loans, a sum outside\n");
     }
 }
 
-fn main() {
-    let mut buf = io::large_buffer();
-    let input = cases::read_input(&mut buf);
+fn main(rt: HostRuntime) {
+    let mut buf = [0u8; cases::BLOCK];
+    let input = cases::read_input(&mut rt.stdin(), &mut buf);
     let n = input.count;
     if n == 0 {
         return;
@@ -97,5 +96,5 @@ fn main() {
     let table = loan_charge::charge::table();
     let sums = charge_all(count.value, &table);
     let ok = is_within(sums.total, total) & is_within(sums.supplement, supplement);
-    print_answer(count.value, ok);
+    print_answer(&rt, count.value, ok);
 }

@@ -6,7 +6,8 @@ ghost use Rattle.report.specs.Line.{Written};
 ghost use Rattle.report_lines.specs.Sample.{sample};
 
 use fixed_point::Signed;
-use libc::STDOUT_FILENO;
+use std::io;
+use std::io::Print;
 
 // a is written with both signs.
 fn put_sample(out: &mut [u8], a: Signed, b: Signed) -> usize
@@ -24,7 +25,7 @@ fn put_sample(out: &mut [u8], a: Signed, b: Signed) -> usize
     four + report::put_word_line(&mut out[four..], b"ratio", b"none")
 }
 
-fn main() {
+fn main(rt: HostRuntime) -> io::Result<()> {
     let mut out = [0u8; 512];
     let a = Signed {
         plus: 7,
@@ -35,7 +36,7 @@ fn main() {
         minus: 0,
     };
     let n = put_sample(&mut out, a, b);
-    io::write_all(STDOUT_FILENO, &out[0..n]);
+    rt.write_all(&out[0..n])?;
     let m = report::put_refusal(&mut out, 2, 100001);
-    io::write_all(STDOUT_FILENO, &out[0..m]);
+    rt.write_all(&out[0..m])
 }

@@ -16,6 +16,7 @@ use house_index::Index;
 use loan_charge::credit::Rates;
 use marks::Marks;
 use sheet_file::Room;
+use std::io::Print;
 
 // The calls are read at once, at most so many bytes.
 const INPUT: usize = 327680;
@@ -25,12 +26,13 @@ const REPORT: usize = 640;
 
 const TABLE: usize = 8320;
 
-fn print_answer(call: &[u8], refusal: u64) {
-    io::write_all(1, call);
-    io::print_decimal(1, refusal);
+fn print_answer(out: &impl Print, call: &[u8], refusal: u64) {
+    cases::put(out, call);
+    cases::put_number(out, refusal);
 }
 
 fn open(
+    out: &impl Print,
     line: &[u8],
     rates: &mut Rates,
     cells: &mut Cells,
@@ -40,8 +42,8 @@ fn open(
     ensures { Sound (state_at result rates.new cells.new index.new marks.new) }
 {
     let opened = book::open(line, rates, cells, index, marks);
-    print_answer(b"o ", opened.refusal);
-    io::write_all(1, b"\n");
+    print_answer(out, b"o ", opened.refusal);
+    cases::put(out, b"\n");
     opened.book
 }
 
@@ -58,6 +60,7 @@ fn numbers_of(text: &[u8], room: &mut Room) -> usize
 
 // Under the sheet of these numbers.
 fn open_sheet(
+    out: &impl Print,
     line: &[u8],
     numbers: &[u8],
     rates: &mut Rates,
@@ -70,24 +73,25 @@ fn open_sheet(
     let mut room = [0u64; sheet_file::MOST];
     let count = numbers_of(numbers, &mut room);
     let opened = book::open_sheet(line, &room[0..count], rates, cells, index, marks);
-    print_answer(b"s ", opened.refusal);
-    io::write_all(1, b"\n");
+    print_answer(out, b"s ", opened.refusal);
+    cases::put(out, b"\n");
     opened.book
 }
 
 // How many numbers the sheet has.
-fn tell_numbers(text: &[u8]) {
+fn tell_numbers(out: &impl Print, text: &[u8]) {
     let mut room = [0u64; sheet_file::MOST];
     let found = sheet_file::numbers_in(text, &mut room);
     if found.good {
-        print_answer(b"n ", found.count as u64);
-        io::write_all(1, b"\n");
+        print_answer(out, b"n ", found.count as u64);
+        cases::put(out, b"\n");
     } else {
-        io::write_all(1, b"n bad\n");
+        cases::put(out, b"n bad\n");
     }
 }
 
 fn feed(
+    out: &impl Print,
     b: Book,
     rates: &Rates,
     cells: &mut Cells,
@@ -99,8 +103,8 @@ fn feed(
     ensures { Sound (state_at result rates.now cells.new index.new marks.new) }
 {
     let fed = book::feed(b, rates, cells, index, marks, line);
-    print_answer(b"f ", fed.refusal);
-    io::write_all(1, b"\n");
+    print_answer(out, b"f ", fed.refusal);
+    cases::put(out, b"\n");
     fed.book
 }
 
@@ -118,41 +122,42 @@ fn size_of(digits: &[u8], most: usize) -> usize
     most
 }
 
-fn print_closing(call: &[u8], closed: Closed, out: &[u8]) {
-    print_answer(call, closed.refusal);
-    io::write_all(1, b" ");
-    io::print_decimal(1, closed.length as u64);
-    io::write_all(1, b"\n");
-    io::write_all(1, out);
-    io::write_all(1, b"\n");
+fn print_closing(out: &impl Print, call: &[u8], closed: Closed, buffer: &[u8]) {
+    print_answer(out, call, closed.refusal);
+    cases::put(out, b" ");
+    cases::put_number(out, closed.length as u64);
+    cases::put(out, b"\n");
+    cases::put(out, buffer);
+    cases::put(out, b"\n");
 }
 
-fn print_report(closed: Closed, out: &[u8; REPORT]) {
-    print_closing(b"c ", closed, out);
+fn print_report(out: &impl Print, closed: Closed, buffer: &[u8; REPORT]) {
+    print_closing(out, b"c ", closed, buffer);
 }
 
-fn print_table(closed: Closed, out: &[u8; TABLE]) {
-    print_closing(b"t ", closed, out);
+fn print_table(out: &impl Print, closed: Closed, buffer: &[u8; TABLE]) {
+    print_closing(out, b"t ", closed, buffer);
 }
 
-fn close(b: Book, digits: &[u8])
+fn close(out: &impl Print, b: Book, digits: &[u8])
     requires { SoundBook b }
 {
-    let mut out = [46u8; REPORT];
+    let mut buffer = [46u8; REPORT];
     let size = size_of(digits, REPORT);
-    let closed = book::close(b, &mut out[0..size]);
-    print_report(closed, &out);
+    let closed = book::close(b, &mut buffer[0..size]);
+    print_report(out, closed, &buffer);
 }
 
-fn close_cells(b: Book, cells: &Cells, digits: &[u8]) {
-    let mut out = [46u8; TABLE];
+fn close_cells(out: &impl Print, b: Book, cells: &Cells, digits: &[u8]) {
+    let mut buffer = [46u8; TABLE];
     let size = size_of(digits, TABLE);
-    let closed = book::close_cells(b, cells, &mut out[0..size]);
-    print_table(closed, &out);
+    let closed = book::close_cells(b, cells, &mut buffer[0..size]);
+    print_table(out, closed, &buffer);
 }
 
 // One call that opens a book, feeds it or closes it; `numbers` are the sheet's.
 fn call_book(
+    out: &impl Print,
     b: Book,
     numbers: &[u8],
     rates: &mut Rates,
@@ -166,19 +171,19 @@ fn call_book(
     ensures { Sound (state_at result rates.new cells.new index.new marks.new) }
 {
     if kind == b'o' {
-        return open(rest, rates, cells, index, marks);
+        return open(out, rest, rates, cells, index, marks);
     }
     if kind == b's' {
-        return open_sheet(rest, numbers, rates, cells, index, marks);
+        return open_sheet(out, rest, numbers, rates, cells, index, marks);
     }
     if kind == b'f' {
-        return feed(b, rates, cells, index, marks, rest);
+        return feed(out, b, rates, cells, index, marks, rest);
     }
     if kind == b't' {
-        close_cells(b, cells, rest);
+        close_cells(out, b, cells, rest);
         return b;
     }
-    close(b, rest);
+    close(out, b, rest);
     b
 }
 
@@ -236,6 +241,7 @@ fn exchange(
 // Joins the copy kept and the book, whose tables become those of what joining gave. They are made in a set of their own, of ones before, so that
 // what is not written shows.
 fn join(
+    out: &impl Print,
     kept: Book,
     kept_rates: &Rates,
     kept_cells: &Cells,
@@ -270,13 +276,13 @@ fn join(
     *rates = new_rates;
     *cells = new_cells;
     *index = new_index;
-    print_answer(b"j ", joined.refusal);
-    io::write_all(1, b"\n");
+    print_answer(out, b"j ", joined.refusal);
+    cases::put(out, b"\n");
     joined.book
 }
 
 // The book and the copy of one that is kept.
-#[derive(Drop)]
+#[derive(Clone, Copy)]
 struct Books {
     b: Book,
     kept: Book,
@@ -284,6 +290,7 @@ struct Books {
 
 // One call on the book or on the copy kept; `numbers` are the sheet's.
 fn call_books(
+    out: &impl Print,
     books: Books,
     numbers: &[u8],
     kept_rates: &mut Rates,
@@ -321,16 +328,16 @@ fn call_books(
     }
     if kind == b'j' {
         let joined = join(
-            kept, kept_rates, kept_cells, kept_index, before, rates, cells, index, marks,
+            out, kept, kept_rates, kept_cells, kept_index, before, rates, cells, index, marks,
         );
         return Books { b: joined, kept };
     }
-    let b = call_book(before, numbers, rates, cells, index, marks, kind, rest);
+    let b = call_book(out, before, numbers, rates, cells, index, marks, kind, rest);
     Books { b, kept }
 }
 
 // The books after a call, and where in the input the numbers of the sheet stand.
-#[derive(Drop)]
+#[derive(Clone, Copy)]
 struct Held {
     books: Books,
     from: usize,
@@ -339,6 +346,7 @@ struct Held {
 
 // The call of the line that stands there; an empty line is none.
 fn call(
+    out: &impl Print,
     held: Held,
     kept_rates: &mut Rates,
     kept_cells: &mut Cells,
@@ -367,7 +375,7 @@ fn call(
     let to = held.to;
     let before = held.books;
     if kind == b'n' {
-        tell_numbers(&s[rest..end]);
+        tell_numbers(out, &s[rest..end]);
         return Held {
             books: before,
             from: rest,
@@ -375,6 +383,7 @@ fn call(
         };
     }
     let books = call_books(
+        out,
         before,
         &s[from..to],
         kept_rates,
@@ -391,13 +400,14 @@ fn call(
 }
 
 // What a call left, and where the next line begins.
-#[derive(Drop)]
+#[derive(Clone, Copy)]
 struct Turn {
     held: Held,
     at: usize,
 }
 
 fn call_at(
+    out: &impl Print,
     held: Held,
     kept_rates: &mut Rates,
     kept_cells: &mut Cells,
@@ -416,9 +426,9 @@ fn call_at(
         × Sound (state_at result.held.books.b rates.new cells.new index.new marks.new)
         × (result.held.from ≤ result.held.to) × (result.held.to ≤ length s.now) × (at < result.at) }
 {
-    let end = bytes::scan::find(s, at, s.len(), b'\n');
+    let end = line_bytes::newlines::line_end(s, at);
     let next = call(
-        held, kept_rates, kept_cells, kept_index, rates, cells, index, marks, s, at, end,
+        out, held, kept_rates, kept_cells, kept_index, rates, cells, index, marks, s, at, end,
     );
     Turn {
         held: next,
@@ -427,7 +437,14 @@ fn call_at(
 }
 
 // The calls of the input, on the book of a refused opening, with a copy of it kept and an empty sheet at first.
-fn call_all(s: &[u8], rates: &mut Rates, cells: &mut Cells, index: &mut Index, marks: &mut Marks) {
+fn call_all(
+    out: &impl Print,
+    s: &[u8],
+    rates: &mut Rates,
+    cells: &mut Cells,
+    index: &mut Index,
+    marks: &mut Marks,
+) {
     let opened = book::open(b"", rates, cells, index, marks);
     let b = opened.book;
     let mut kept_rates = *rates;
@@ -441,6 +458,7 @@ fn call_all(s: &[u8], rates: &mut Rates, cells: &mut Cells, index: &mut Index, m
     let mut at = 0;
     while at < s.len() {
         let turn = call_at(
+            out,
             held,
             &mut kept_rates,
             &mut kept_cells,
@@ -457,13 +475,20 @@ fn call_all(s: &[u8], rates: &mut Rates, cells: &mut Cells, index: &mut Index, m
     }
 }
 
-fn main() {
+fn main(rt: HostRuntime) {
     let mut buf = [0u8; INPUT];
-    let input = cases::read_input(&mut buf);
+    let input = cases::read_input(&mut rt.stdin(), &mut buf);
     let n = input.count;
     let mut rates = [0u64; loan_charge::credit::RATES];
     let mut cells = [0u64; cell_report::PLACES];
     let mut index = [0u64; house_index::PLACES];
     let mut marks = marks::none();
-    call_all(&buf[0..n], &mut rates, &mut cells, &mut index, &mut marks);
+    call_all(
+        &rt,
+        &buf[0..n],
+        &mut rates,
+        &mut cells,
+        &mut index,
+        &mut marks,
+    );
 }

@@ -11,9 +11,10 @@ use line_forms::{
     MarkLine, Policy,
 };
 use loan_charge::Score;
+use std::io::{Print, Read};
 
 // An answer as numbers.
-#[derive(Drop)]
+#[derive(Clone, Copy)]
 struct Answer {
     refusal: u64,
     kind: u64,
@@ -29,14 +30,14 @@ struct Answer {
 }
 
 // What an accepted line of a case holds, and the position after it.
-#[derive(Drop)]
+#[derive(Clone, Copy)]
 struct Values {
     answer: Answer,
     next: usize,
 }
 
 // A case without its line.
-#[derive(Drop)]
+#[derive(Clone, Copy)]
 struct Case {
     length: usize,
     feeding: u64,
@@ -274,7 +275,7 @@ fn is_read(line: &[u8], c: Case) -> bool {
     is_same(fed, expected(c.feeding, values)) & is_same(opened, expected(c.opening, values))
 }
 
-fn try_case(s: &[u8], at: usize) -> Tried
+fn try_case(out: &impl Print, s: &[u8], at: usize) -> Tried
     requires { at < length s.now }
     ensures { (at < result.next) × (result.next ≤ length s.now) }
 {
@@ -289,7 +290,7 @@ fn try_case(s: &[u8], at: usize) -> Tried
     }
     let end = start + size;
     let ok = is_read(&s[start..end], c);
-    cases::print_unless(ok, &s[at..end]);
+    cases::print_unless(out, ok, &s[at..end]);
     Tried {
         ok: ok,
         next: end + 1,
@@ -297,11 +298,11 @@ fn try_case(s: &[u8], at: usize) -> Tried
 }
 
 // The cases of one block of the input.
-fn try_cases(s: &[u8], before: Tally) -> Tally {
+fn try_cases(out: &impl Print, s: &[u8], before: Tally) -> Tally {
     let mut tally = before;
     let mut at = 0;
     while at < s.len() {
-        let tried = try_case(s, at);
+        let tried = try_case(out, s, at);
         tally = cases::counted(tally, tried.ok);
         at = tried.next;
     }
@@ -309,33 +310,32 @@ fn try_cases(s: &[u8], before: Tally) -> Tally {
 }
 
 // Reads a block, which holds whole cases, and tries them.
-fn try_block(before: Block) -> Block {
-    let mut buf = io::large_buffer();
-    let input = cases::read_input(&mut buf);
-    if input.failed {
-        io::write_all(1, b"read failed\n");
+fn try_block(input: &mut impl Read, out: &impl Print, before: Block) -> Block {
+    let mut buf = [0u8; cases::BLOCK];
+    let read = cases::read_input(input, &mut buf);
+    if read.failed {
+        cases::put(out, b"read failed\n");
     }
-    let n = input.count;
+    let n = read.count;
     Block {
         more: 0 < n,
-        tally: try_cases(&buf[0..n], before.tally),
+        tally: try_cases(out, &buf[0..n], before.tally),
     }
 }
 
-// The blocks of the input. Nothing says that it ends, so their number is counted down from one that no run uses up.
-fn try_all() -> Tally {
+// The blocks of the input. Nothing says that it ends, so they are counted, up to a number that no run uses up.
+fn try_all(input: &mut impl Read, out: &impl Print) -> Tally {
     let mut block = cases::first_block();
-    let mut turns = u64::MAX;
-    while 0 < turns {
-        block = try_block(block);
+    for _ in 0..u64::MAX {
+        block = try_block(input, out, block);
         if !block.more {
-            return block.tally;
+            break;
         }
-        turns = turns - 1;
     }
     block.tally
 }
 
-fn main() {
-    cases::print_tally(try_all());
+fn main(rt: HostRuntime) {
+    let tally = try_all(&mut rt.stdin(), &rt);
+    cases::print_tally(&rt, tally);
 }

@@ -12,16 +12,17 @@ use fixed_point::Signed;
 use loan_charge::charge::{Exponentials, LoanCharge};
 use loan_charge::credit::Rates;
 use loan_charge::{LoanInputs, Score};
+use std::io::{Print, Read};
 
 // The loan of a case, and the position after it.
-#[derive(Drop)]
+#[derive(Clone, Copy)]
 struct Loan {
     inputs: LoanInputs,
     next: Number,
 }
 
 // A score, the header's numbers and the factor of a case, and the position after it.
-#[derive(Drop)]
+#[derive(Clone, Copy)]
 struct Factor {
     scored: bool,
     number: u64,
@@ -100,22 +101,22 @@ fn is_within(x: Signed, range: Range) -> bool {
     cases::at_most(range.least, x) & cases::at_most(x, range.greatest)
 }
 
-fn print_signed(x: Signed) {
-    io::print_decimal(1, x.plus);
-    io::write_all(1, b" - ");
-    io::print_decimal(1, x.minus);
-    io::write_all(1, b"; ");
+fn print_signed(out: &impl Print, x: Signed) {
+    cases::put_number(out, x.plus);
+    cases::put(out, b" - ");
+    cases::put_number(out, x.minus);
+    cases::put(out, b"; ");
 }
 
-fn print_charge(c: LoanCharge) {
+fn print_charge(out: &impl Print, c: LoanCharge) {
     let total = c.total;
     let supplement = c.supplement;
-    print_signed(total);
-    print_signed(supplement);
+    print_signed(out, total);
+    print_signed(out, supplement);
 }
 
 // A loan and the ranges of its two numbers.
-fn try_charge(s: &[u8], before: Number, table: &Exponentials) -> Tried
+fn try_charge(out: &impl Print, s: &[u8], before: Number, table: &Exponentials) -> Tried
     requires { (before.next ≤ length s.now) × (table.now ≡ exponentials) }
     ensures { (before.next ≤ result.next) × (result.next ≤ length s.now) }
 {
@@ -125,7 +126,7 @@ fn try_charge(s: &[u8], before: Number, table: &Exponentials) -> Tried
     let got = charge_of(loan.inputs, table);
     let ok = is_within(got.total, total) & is_within(got.supplement, supplement);
     if !ok {
-        print_charge(got);
+        print_charge(out, got);
     }
     Tried {
         ok: ok,
@@ -183,35 +184,41 @@ fn try_factor(s: &[u8], before: Number, rates: &Rates) -> Tried
     }
 }
 
-fn try_kind(s: &[u8], kind: Number, table: &Exponentials, rates: &Rates) -> Tried
+fn try_kind(out: &impl Print, s: &[u8], kind: Number, table: &Exponentials, rates: &Rates) -> Tried
     requires { (kind.next ≤ length s.now) × (table.now ≡ exponentials) }
     ensures { (kind.next ≤ result.next) × (result.next ≤ length s.now) }
 {
     if kind.value == 1 {
-        return try_charge(s, kind, table);
+        return try_charge(out, s, kind, table);
     }
     try_factor(s, kind, rates)
 }
 
-fn try_case(s: &[u8], at: usize, table: &Exponentials, rates: &Rates) -> Tried
+fn try_case(out: &impl Print, s: &[u8], at: usize, table: &Exponentials, rates: &Rates) -> Tried
     requires { (at < length s.now) × (table.now ≡ exponentials) }
     ensures { (at < result.next) × (result.next ≤ length s.now) }
 {
     let kind = cases::number_at(s, at);
-    let tried = try_kind(s, kind, table, rates);
+    let tried = try_kind(out, s, kind, table, rates);
     let next = tried.next;
-    cases::print_unless(tried.ok, &s[at..next]);
+    cases::print_unless(out, tried.ok, &s[at..next]);
     tried
 }
 
 // The cases of one block of the input.
-fn try_cases(s: &[u8], before: Tally, table: &Exponentials, rates: &Rates) -> Tally
+fn try_cases(
+    out: &impl Print,
+    s: &[u8],
+    before: Tally,
+    table: &Exponentials,
+    rates: &Rates,
+) -> Tally
     requires { table.now ≡ exponentials }
 {
     let mut tally = before;
     let mut at = 0;
     while at < s.len() {
-        let tried = try_case(s, at, table, rates);
+        let tried = try_case(out, s, at, table, rates);
         tally = cases::counted(tally, tried.ok);
         at = tried.next;
     }
@@ -219,39 +226,44 @@ fn try_cases(s: &[u8], before: Tally, table: &Exponentials, rates: &Rates) -> Ta
 }
 
 // Reads a block, which holds whole lines, and tries its cases.
-fn try_block(before: Block, table: &Exponentials, rates: &Rates) -> Block
+fn try_block(
+    input: &mut impl Read,
+    out: &impl Print,
+    before: Block,
+    table: &Exponentials,
+    rates: &Rates,
+) -> Block
     requires { table.now ≡ exponentials }
 {
-    let mut buf = io::large_buffer();
-    let input = cases::read_input(&mut buf);
-    if input.failed {
-        io::write_all(1, b"read failed\n");
+    let mut buf = [0u8; cases::BLOCK];
+    let read = cases::read_input(input, &mut buf);
+    if read.failed {
+        cases::put(out, b"read failed\n");
     }
-    let n = input.count;
+    let n = read.count;
     Block {
         more: 0 < n,
-        tally: try_cases(&buf[0..n], before.tally, table, rates),
+        tally: try_cases(out, &buf[0..n], before.tally, table, rates),
     }
 }
 
-// The blocks of the input. Nothing says that it ends, so their number is counted down from one that no run uses up.
-fn try_all(table: &Exponentials, rates: &Rates) -> Tally
+// The blocks of the input. Nothing says that it ends, so they are counted, up to a number that no run uses up.
+fn try_all(input: &mut impl Read, out: &impl Print, table: &Exponentials, rates: &Rates) -> Tally
     requires { table.now ≡ exponentials }
 {
     let mut block = cases::first_block();
-    let mut turns = u64::MAX;
-    while 0 < turns {
-        block = try_block(block, table, rates);
+    for _ in 0..u64::MAX {
+        block = try_block(input, out, block, table, rates);
         if !block.more {
-            return block.tally;
+            break;
         }
-        turns = turns - 1;
     }
     block.tally
 }
 
-fn main() {
+fn main(rt: HostRuntime) {
     let table = loan_charge::charge::table();
     let rates = sheet::built_in_rates();
-    cases::print_tally(try_all(&table, &rates));
+    let tally = try_all(&mut rt.stdin(), &rt, &table, &rates);
+    cases::print_tally(&rt, tally);
 }
