@@ -1,7 +1,7 @@
 -- Index values and the loans that go by them, over the lines taken. Assumes nothing.
 use mathlib.Core.Path.{◌≡◌, refl, sym, ◌∙◌, ap, ap₂, subst}
 use mathlib.Core.Bool.{Bool, true, false}
-use mathlib.Core.List.{List, [], ◌∷◌, ◌++◌, Memᴰ}
+use mathlib.Core.List.{List, [], ◌∷◌, Memᴰ}
 use mathlib.Core.Logic.{◌↔◌}
 use Prim.Native.Nat.{ℕ, ◌*◌, ◌≤◌}
 use native.Mathlib.Nat.{mul-pos}
@@ -13,7 +13,7 @@ use Rattle.exact.specs.Fraction.{quotient, whole, ◌⊗◌, Equals}
 use Rattle.loan_charge.specs.Computation.{charge_of}
 use Rattle.line_forms.specs.declared.IndexValue.{IndexValue}
 use Rattle.line_forms.specs.declared.Loan.{Loan}
-use Rattle.line_forms.specs.declared.Content.TheVariants.{Loan as loan, Index as index, Mark as mark}
+use Rattle.line_forms.specs.declared.Content.TheVariants.{Index as index, Mark as mark}
 use Rattle.line_forms.specs.declared.MarkLine.{MarkLine}
 use Rattle.line_forms.specs.declared.Content.{Content}
 use Rattle.line_forms.specs.Claims.{ShowsInRange, line_content}

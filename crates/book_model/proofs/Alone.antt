@@ -7,7 +7,6 @@ use lib.Dec.{eqb}
 use lib.ListN.{get_or, take}
 use borrow.Author.Tests.{eqb-true, eqb-false}
 use Rattle.exact.specs.Choice.{pick}
-use Rattle.line_forms.specs.declared.MarkLine.{MarkLine}
 use Rattle.line_forms.specs.declared.Content.{Content}
 use Rattle.line_forms.specs.declared.Content.TheVariants.{Header as header, Loan as loan, Policy as policy, Derivative as derivative, Asset as asset}
 use Rattle.line_forms.specs.declared.Content.TheVariants.{Amount as amount, Index as index, Mark as mark, NoForm}
@@ -16,7 +15,7 @@ use Rattle.line_forms.specs.Readings.{line_of}
 use Rattle.figures.specs.declared.Counts.{Counts}
 use Rattle.book_model.specs.Accepted.{Note, Accepted, counts_in, refusal_for, kept_by, refusal_of, no_note, place_of_note, taken_up, noted, added}
 use Rattle.book_model.specs.Accepted.{with_mark, accept}
-use Rattle.book_model.specs.Calls.{State, opening}
+use Rattle.book_model.specs.Calls.{opening}
 use Rattle.book_model.specs.Demand3.{after_lines}
 use Rattle.book_model.specs.History.{History, opened, fed, all_fed, header_line, sheet_of, terms_of, accepted_of, lines_taken}
 use Rattle.book_model.specs.LineKinds.{of_mark, content_kind, kind_of}

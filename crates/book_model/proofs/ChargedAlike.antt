@@ -6,7 +6,7 @@ use mathlib.Core.Logic.{◌↔◌}
 use Prim.Native.Nat.{ℕ, ◌+◌, ◌*◌, ◌≤◌, ◌<◌}
 use native.Mathlib.Omega.{arith}
 use lib.Dec.{eqb, ltb}
-use borrow.Author.Tests.{ltb-true, ltb-false, lt-ltb, le-ltb}
+use borrow.Author.Tests.{ltb-true, lt-ltb}
 use Rattle.exact.specs.Choice.{pick}
 use Rattle.loan_charge.specs.declared.Score.{Score}
 use Rattle.loan_charge.specs.declared.Score.TheVariants.{Scored, Unscored}
@@ -21,23 +21,21 @@ use Rattle.line_forms.specs.declared.Content.TheVariants.{Amount as amount, Inde
 use Rattle.line_forms.specs.Claims.{line_refusal, line_content}
 use Rattle.line_forms.specs.Contents.{on_aged_table_lem}
 use Rattle.line_forms.specs.Readings.{line_of}
-use Rattle.line_forms.proofs.HeaderCounts.{aged-serves, first-serves}
-use Rattle.figures.specs.declared.Counts.{Counts}
-use Rattle.figures.specs.declared.Sums.{Sums}
+use Rattle.line_forms.proofs.HeaderCounts.{first-serves}
 use Rattle.figures.specs.Sums.{zero_signed, zero_money, plus, sum_of}
 use Rattle.cell_report.specs.CellReport.{place_of}
 use Rattle.book_model.specs.declared.Adjustment.{Adjustment}
 use Rattle.book_model.specs.Accepted.{counts_in}
-use Rattle.book_model.specs.Cells.{loan_band, ltv_with, loan_ltv, cell_with, loan_cell}
+use Rattle.book_model.specs.Cells.{loan_band, ltv_with, loan_ltv, loan_cell}
 use Rattle.book_model.specs.FreshScores.{CountsKept}
 use Rattle.book_model.specs.History.{sums_by}
 use Rattle.book_model.specs.HouseIndex.{adjustment_of}
 use Rattle.book_model.specs.Joining.{KeepsChoices}
-use Rattle.book_model.specs.LineKinds.{a_loan, content_kind, kind_of, kind_counts, line_counts, unscored_count, sum_by}
+use Rattle.book_model.specs.LineKinds.{a_loan, content_kind, kind_counts, line_counts, unscored_count, sum_by}
 use Rattle.book_model.specs.Share.{numbers_with, share_with, share}
 use Rattle.book_model.specs.Terms.{Terms, Basis, under, factor_for}
 use Rattle.book_model.proofs.Cells.{Held, a_loan as held-loan, no_loan, held}
-use Rattle.book_model.proofs.Tables.{tabulate, placed, placed_by, cells_of}
+use Rattle.book_model.proofs.Tables.{placed, placed_by}
 use Rattle.book_model.proofs.Tests.{unscored-is}
 
 -- data whose loan, if it is one, has the same factor and the same adjustment by both

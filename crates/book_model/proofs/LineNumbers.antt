@@ -12,9 +12,8 @@ use Rattle.line_forms.specs.declared.Class.TheVariants.{Home, Multi}
 use Rattle.line_forms.specs.declared.Content.{Content}
 use Rattle.line_forms.specs.declared.Content.TheVariants.{Header as header, Loan as loan, Policy as policy, Derivative as derivative, Asset as asset}
 use Rattle.line_forms.specs.declared.Content.TheVariants.{Amount as amount, Index as index, Mark as mark, NoForm}
-use Rattle.line_forms.specs.declared.Loan.{Loan}
 use Rattle.figures.specs.declared.Sums.{Sums}
-use Rattle.book_model.specs.LineNumbers.{of_item, CapitalSums, ChargedBy, LineNumbers}
+use Rattle.book_model.specs.LineNumbers.{of_item, CapitalSums, LineNumbers}
 use Rattle.book_model.specs.Share.{share, share_with, policy_share, derivative_share, asset_share, amount_share}
 use Rattle.book_model.specs.Terms.{Terms, Basis, basis_of}
 use Rattle.book_model.proofs.LineSums.{sums-number}

@@ -9,14 +9,13 @@ use lib.ListN.{length, get_or, take, replicate, length-append, length-map, lengt
 use lib.Seq.{take_at, drop_at, take_all, length-take-le, get_or-take, get_or-append-add}
 use borrow.Author.Tests.{eqb-true, ltb-true, ltb-false, lt-ltb, le-ltb}
 use Rattle.exact.specs.Choice.{pick}
-use Rattle.line_forms.specs.declared.Header.{Header}
 use Rattle.line_forms.specs.declared.MarkLine.{MarkLine}
 use Rattle.line_forms.specs.declared.Content.{Content}
 use Rattle.line_forms.specs.declared.Content.TheVariants.{Header as header, Loan as loan, Policy as policy, Derivative as derivative, Asset as asset}
 use Rattle.line_forms.specs.declared.Content.TheVariants.{Amount as amount, Index as index, Mark as mark, NoForm}
 use Rattle.book_model.specs.declared.Book.{Book}
 use Rattle.book_model.specs.LineKinds.{of_mark}
-use Rattle.book_model.specs.Marks.{most_marks, place_among, is_among, numbers_of, row_of, name_in, book_in_lem, cells_in, index_in, empty_row, no_marks, names_in}
+use Rattle.book_model.specs.Marks.{place_among, is_among, row_of, name_in, book_in_lem, cells_in, index_in, empty_row, no_marks, names_in}
 use Rattle.book_model.specs.Marks.{first_marks}
 
 -- A line holds a mark or return, or whatever is asked of it is what stands for none.

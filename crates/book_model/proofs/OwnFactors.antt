@@ -13,7 +13,7 @@ use Rattle.line_forms.specs.declared.HeaderLine.TheVariants.{Refusal as HeaderRe
 use Rattle.line_forms.specs.Contents.{on_aged_table_lem}
 use Rattle.line_forms.specs.Readings.{line_of, header_of}
 use Rattle.line_forms.proofs.HeaderLaws.{header-numbers}
-use Rattle.book_model.specs.Calls.{State, Answer, opening_for, feeding_line, feeding}
+use Rattle.book_model.specs.Calls.{State, Answer, opening_for, feeding}
 use Rattle.book_model.specs.Demand3.{after_lines}
 use Rattle.book_model.specs.OwnFactors.{OwnFactors}
 use Rattle.book_model.specs.Terms.{factor_for}

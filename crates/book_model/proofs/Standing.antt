@@ -1,8 +1,8 @@
 -- Marks, returns and the lines still standing. Assumes nothing.
-use mathlib.Core.Path.{◌≡◌, refl, sym, ◌∙◌, ap, ap₂}
+use mathlib.Core.Path.{◌≡◌, refl, sym, ◌∙◌, ap}
 use mathlib.Core.Bool.{Bool, true, false}
 use mathlib.Core.List.{List, [], ◌∷◌, ◌++◌, map-append, append_assoc}
-use Prim.Native.Nat.{ℕ, suc, ◌+◌}
+use Prim.Native.Nat.{ℕ, suc}
 use native.Mathlib.Omega.{arith}
 use lib.Dec.{eqb}
 use lib.ListN.{length, get_or, take, length-append}
@@ -11,7 +11,7 @@ use borrow.Author.Tests.{ltb-false, eq-eqb}
 use Rattle.exact.specs.Choice.{pick}
 use Rattle.line_forms.specs.declared.MarkLine.{MarkLine}
 use Rattle.line_forms.specs.declared.Content.TheVariants.{Mark as mark}
-use Rattle.line_forms.specs.Claims.{ShowsInRange, line_content}
+use Rattle.line_forms.specs.Claims.{ShowsInRange}
 use Rattle.line_forms.specs.Readings.{line_of}
 use Rattle.book_model.specs.Accepted.{Note, Accepted, refusal_of, names_of, no_note, taken_up, noted, added, with_mark, accept}
 use Rattle.book_model.specs.Calls.{State, Answer, refusal_in, state_after, marked, state_marked, feeding_line, opening, feeding}

@@ -25,7 +25,7 @@ use Rattle.book_model.specs.declared.Adjustment.{Adjustment}
 use Rattle.book_model.specs.declared.Book.{Book}
 use Rattle.book_model.specs.Accepted.{Note, Accepted, counts_in, loan_refusal, index_refusal, refusal_for, names_of, kept_by, refusal_of, no_note, place_of_note}
 use Rattle.book_model.specs.Accepted.{taken_up, added, with_mark, accept}
-use Rattle.book_model.specs.Calls.{State, Answer, state_at, basis_in, counts_of, refusal_in, book_after, cells_after, index_after}
+use Rattle.book_model.specs.Calls.{State, state_at, basis_in, counts_of, refusal_in, book_after, cells_after, index_after}
 use Rattle.book_model.specs.Calls.{marked, place_named, back_at, state_marked, feeding_line, feeding}
 use Rattle.book_model.specs.Cells.{loan_band, ltv_with, loan_ltv, cell_with, loan_cell, with_cell, cells_with}
 use Rattle.book_model.specs.History.{sums_by, sums_of}

@@ -1,12 +1,9 @@
 -- A list of lines, index lines first, that keeps to the counts and sets no value twice is taken whole. Assumes nothing.
-use mathlib.Core.Path.{◌≡◌, refl, sym, ◌∙◌, ap, ap₂, subst}
-use mathlib.Core.Bool.{Bool, true, false}
+use mathlib.Core.Path.{◌≡◌, refl, sym, ◌∙◌, ap, subst}
 use mathlib.Core.List.{List, [], ◌∷◌, ◌++◌, append_assoc, append-nil, Memᴰ}
-use Prim.Native.Nat.{ℕ, ◌+◌, ◌≤◌, ◌<◌}
+use Prim.Native.Nat.{ℕ, ◌+◌}
 use native.Mathlib.Omega.{arith}
-use lib.Dec.{eqb, leb}
 use borrow.Author.Tests.{lt-leb, eq-eqb}
-use Rattle.exact.specs.Choice.{pick}
 use Rattle.line_forms.specs.declared.IndexValue.{IndexValue}
 use Rattle.line_forms.specs.declared.MarkLine.{MarkLine}
 use Rattle.line_forms.specs.declared.Content.{Content}
@@ -19,8 +16,8 @@ use Rattle.figures.specs.declared.Counts.{Counts}
 use Rattle.figures.specs.Sums.{no_counts, counts_sum_lem}
 use Rattle.book_model.specs.Accepted.{Accepted, counts_in, most_other, refusal_for, kept_by, refusal_of, added, with_mark, accept}
 use Rattle.book_model.specs.History.{History, opened, fed, all_fed, terms_of, accepted_of}
-use Rattle.book_model.specs.HouseIndex.{Index, set_by, values_in, of_index}
-use Rattle.book_model.specs.LineKinds.{of_mark, content_kind, kind_of, kind_counts, line_counts, unscored_count, fresh_count, sum_by}
+use Rattle.book_model.specs.HouseIndex.{Index, set_by, values_in}
+use Rattle.book_model.specs.LineKinds.{of_mark, content_kind, kind_of, kind_counts, line_counts, sum_by}
 use Rattle.book_model.specs.Marks.{Kept}
 use Rattle.book_model.specs.Terms.{Terms, Basis, basis_of}
 use Rattle.book_model.proofs.Adjustments.{Has}

@@ -1,5 +1,5 @@
 -- 02, L8, by numbers: what is added, and pairs of headers and counts of lines at each limit and one beyond. Proved in proofs/JoiningExamples.antt.
-use Rattle.std.specs.Prelude.{ℕ, ◌≡◌, List, [], ◌∷◌, ◌++◌}
+use Rattle.std.specs.Prelude.{ℕ, ◌≡◌, List, ◌++◌}
 use Rattle.exact.specs.Text.{text}
 use Rattle.line_forms.specs.declared.Header.{Header}
 use Rattle.line_forms.specs.declared.Content.TheVariants.{Header as header}

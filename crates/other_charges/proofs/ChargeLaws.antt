@@ -10,7 +10,6 @@ use lib.Dec.{leb, lit≤}
 use lib.ListN.{get_or}
 use Rattle.exact.specs.Choice.{pick}
 use Rattle.exact.specs.Fraction.{Fraction, Proper, quotient, ◌≈◌}
-use Rattle.exact.proofs.Fractions
 use Rattle.line_forms.specs.declared.Kind.{Kind}
 use Rattle.line_forms.specs.declared.Kind.TheVariants.{Rate, Float, Fx, Equity, Metal, Other}
 use Rattle.other_charges.specs.Charges.{asset_charge, share_charge, derivative_charge, add_on_thousandths, provision_tenths_lem, provision, multi_provision}

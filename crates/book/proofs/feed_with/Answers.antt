@@ -10,7 +10,9 @@ feed_line-requires c =
 
 pub returns-in_default : goal.returns-in_default
 returns-in_default c =
-    let answer = fed (state_at c.args.b c.args.rates.now c.args.cells.now c.args.index.now c.args.marks.now) c.args.line.now c.read_line-read.ensures.equation c.requires.0 (c.feed_line.ensures.equation, (c.feed_line.ensures.cells, (c.feed_line.ensures.index, c.feed_line.ensures.marks))) in
+    let state_for : State =
+        state_at c.args.b c.args.rates.now c.args.cells.now c.args.index.now c.args.marks.now in
+    let answer = fed state_for c.args.line.now c.read_line-read.ensures.equation c.requires.0 (c.feed_line.ensures.equation, (c.feed_line.ensures.cells, (c.feed_line.ensures.index, c.feed_line.ensures.marks))) in
     record {
       equation = answer.0;
       cells = answer.1.0;
@@ -21,7 +23,9 @@ returns-in_default c =
 
 pub returns : goal.returns
 returns c =
-    let answer = not-fed (state_at c.args.b c.args.rates.now c.args.cells.now c.args.index.now c.args.marks.now) c.args.line.now c.read_line-read.ensures.equation c.requires.0 c.in-Refusal.refusal c.in-Refusal.is in
+    let state_for : State =
+        state_at c.args.b c.args.rates.now c.args.cells.now c.args.index.now c.args.marks.now in
+    let answer = not-fed state_for c.args.line.now c.read_line-read.ensures.equation c.requires.0 c.in-Refusal.refusal c.in-Refusal.is in
     record {
       equation = answer.0;
       cells = answer.1.0;

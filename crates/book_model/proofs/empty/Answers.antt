@@ -1,5 +1,4 @@
 use mathlib.Core.Path.{refl}
-use borrow.Author.Rules.{rules}
 use Rattle.book_model.proofs.empty.Goals as goal
 
 -- `empty` meets its contract.

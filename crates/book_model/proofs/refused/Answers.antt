@@ -1,4 +1,3 @@
-use borrow.Author.Rules.{rules}
 use Rattle.book_model.proofs.refused.Goals as goal
 
 -- `refused` meets its contract.

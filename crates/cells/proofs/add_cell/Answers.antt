@@ -1,6 +1,5 @@
 use mathlib.Core.Path.{refl}
 use native.Mathlib.Omega.{arith}
-use borrow.Author.Rules.{rules}
 use Rattle.book_model.specs.Cells.{with_cell}
 use Rattle.book_model.proofs.Cells.{fits, bounded-more}
 use Rattle.cells.proofs.add_cell.Goals as goal

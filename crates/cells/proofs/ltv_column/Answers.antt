@@ -1,7 +1,6 @@
 use Rattle.book_model.specs.Cells.{ltv_of}
 use Rattle.loan_charge.specs.CreditFactor.{count}
 use native.Mathlib.Omega.{arith}
-use borrow.Author.Rules.{rules}
 use Rattle.cells.proofs.ltv_column.Goals as goal
 
 pub returns : goal.returns

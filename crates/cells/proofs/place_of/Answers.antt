@@ -1,5 +1,4 @@
 use native.Mathlib.Omega.{arith}
-use borrow.Author.Rules.{rules}
 use Rattle.book_model.proofs.Adjustments.{ratio-ranges}
 use Rattle.cells.proofs.place_of.Goals as goal
 

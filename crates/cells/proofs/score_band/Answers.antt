@@ -2,7 +2,6 @@ use Rattle.book_model.specs.Cells.{band_of}
 use mathlib.Core.Path.{refl, ap}
 use Prim.Native.Nat.{ℕ, ◌+◌}
 use native.Mathlib.Omega.{arith}
-use borrow.Author.Rules.{rules}
 use Rattle.cells.proofs.score_band.Goals as goal
 
 pub returns-in-Scored : goal.returns-in-Scored

@@ -1,5 +1,4 @@
 use mathlib.Core.Path.{sym, ◌∙◌}
-use borrow.Author.Rules.{rules}
 use Rattle.book_model.specs.HouseIndex.{values_at}
 use Rattle.book_model.proofs.Adjustments.{indexed-is, kept-is}
 use Rattle.book_model.proofs.IndexTables.{loan-months}

@@ -1,5 +1,4 @@
 use mathlib.Core.Path.{refl}
-use borrow.Author.Rules.{rules}
 use Rattle.house_index.proofs.set.Goals as goal
 
 -- `set` meets its contract.

@@ -1,5 +1,4 @@
 use mathlib.Core.Path.{refl}
-use borrow.Author.Rules.{rules}
 use Rattle.house_index.proofs.value_at.Goals as goal
 
 -- `value_at` meets its contract.

@@ -7,17 +7,29 @@ use Rattle.joining.proofs.join.Goals as goal
 
 pub add_cells-requires : goal.add_cells-requires
 add_cells-requires c =
-    (cells-small (state_at c.args.first c.args.first_rates.now c.args.first_cells.now c.args.first_index.now no_marks) c.requires.0, cells-small (state_at c.args.second c.args.second_rates.now c.args.second_cells.now c.args.second_index.now no_marks) c.requires.1)
+    let first : State =
+        state_at c.args.first c.args.first_rates.now c.args.first_cells.now c.args.first_index.now no_marks in
+    let second : State =
+        state_at c.args.second c.args.second_rates.now c.args.second_cells.now c.args.second_index.now no_marks in
+    (cells-small first c.requires.0, cells-small second c.requires.1)
 
 pub joined_book-requires : goal.joined_book-requires
 joined_book-requires c =
-    book-asks (state_at c.args.first c.args.first_rates.now c.args.first_cells.now c.args.first_index.now no_marks) (state_at c.args.second c.args.second_rates.now c.args.second_cells.now c.args.second_index.now no_marks) c.requires.0 c.requires.1
-    (sym (c.may_join.ensures ∙ tested (state_at c.args.first c.args.first_rates.now c.args.first_cells.now c.args.first_index.now no_marks) (state_at c.args.second c.args.second_rates.now c.args.second_cells.now c.args.second_index.now no_marks)) ∙ c.if-may_join.true)
+    let first : State =
+        state_at c.args.first c.args.first_rates.now c.args.first_cells.now c.args.first_index.now no_marks in
+    let second : State =
+        state_at c.args.second c.args.second_rates.now c.args.second_cells.now c.args.second_index.now no_marks in
+    book-asks first second c.requires.0 c.requires.1
+    (sym (c.may_join.ensures ∙ tested first second) ∙ c.if-may_join.true)
 
 pub returns-then-may_join : goal.returns-then-may_join
 returns-then-may_join c =
-    let answer = gives-joined (state_at c.args.first c.args.first_rates.now c.args.first_cells.now c.args.first_index.now no_marks) (state_at c.args.second c.args.second_rates.now c.args.second_cells.now c.args.second_index.now no_marks) c.requires.0 c.requires.1
-    (sym (c.may_join.ensures ∙ tested (state_at c.args.first c.args.first_rates.now c.args.first_cells.now c.args.first_index.now no_marks) (state_at c.args.second c.args.second_rates.now c.args.second_cells.now c.args.second_index.now no_marks)) ∙ c.if-may_join.true)
+    let first : State =
+        state_at c.args.first c.args.first_rates.now c.args.first_cells.now c.args.first_index.now no_marks in
+    let second : State =
+        state_at c.args.second c.args.second_rates.now c.args.second_cells.now c.args.second_index.now no_marks in
+    let answer = gives-joined first second c.requires.0 c.requires.1
+    (sym (c.may_join.ensures ∙ tested first second) ∙ c.if-may_join.true)
     refl c.joined_book.ensures refl c.add_cells.ensures refl c.clear.ensures in
     record {
       equation = answer.0;
@@ -30,8 +42,12 @@ returns-then-may_join c =
 
 pub returns : goal.returns
 returns c =
-    let answer = gives-refused (state_at c.args.first c.args.first_rates.now c.args.first_cells.now c.args.first_index.now no_marks) (state_at c.args.second c.args.second_rates.now c.args.second_cells.now c.args.second_index.now no_marks) c.requires.0 c.requires.1
-    (sym (c.may_join.ensures ∙ tested (state_at c.args.first c.args.first_rates.now c.args.first_cells.now c.args.first_index.now no_marks) (state_at c.args.second c.args.second_rates.now c.args.second_cells.now c.args.second_index.now no_marks)) ∙ c.if-may_join.false)
+    let first : State =
+        state_at c.args.first c.args.first_rates.now c.args.first_cells.now c.args.first_index.now no_marks in
+    let second : State =
+        state_at c.args.second c.args.second_rates.now c.args.second_cells.now c.args.second_index.now no_marks in
+    let answer = gives-refused first second c.requires.0 c.requires.1
+    (sym (c.may_join.ensures ∙ tested first second) ∙ c.if-may_join.false)
     refl c.refused.ensures c.built_in_rates.ensures c.clear-2.ensures
     c.clear-3.ensures c.clear.ensures in
     record {

@@ -1,6 +1,5 @@
 use mathlib.Core.Path.{sym, ◌∙◌}
 use Rattle.line_forms.proofs.ContentLaws.{loan-begins}
-use borrow.Author.Rules.{rules}
 use Rattle.line_contents.proofs.content.Goals as goal
 
 -- `content` meets its contract.

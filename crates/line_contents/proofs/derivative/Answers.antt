@@ -1,4 +1,3 @@
-use borrow.Author.Rules.{rules}
 use Rattle.line_forms.specs.Contents.{derivative_form}
 use Rattle.line_forms.specs.Readings.{derivative_with, derivative_held}
 use Rattle.line_forms.specs.declared.Content.TheVariants.{Derivative, NoForm}
@@ -9,7 +8,7 @@ pub returns-then-skip-line : goal.returns-then-skip-line
 unfolding derivative_held
 returns-then-skip-line c =
     let found : Reading c.args.line.now derivative_form 0 =
-        step c.word_after-kind.ensures
+    step c.word_after-kind.ensures
     (step c.signed_after-cost.ensures
     (step c.number_after-notional.ensures
     (step c.number_after-months.ensures
@@ -22,7 +21,7 @@ pub returns : goal.returns
 unfolding derivative_held
 returns c =
     let found : Reading c.args.line.now derivative_form 0 =
-        step c.word_after-kind.ensures
+    step c.word_after-kind.ensures
     (step c.signed_after-cost.ensures
     (step c.number_after-notional.ensures
     (step c.number_after-months.ensures

@@ -1,4 +1,3 @@
-use borrow.Author.Rules.{rules}
 use Rattle.line_forms.specs.Contents.{header_form}
 use Rattle.line_forms.specs.Readings.{header_with, header_held}
 use Rattle.line_forms.specs.declared.Content.TheVariants.{Header, NoForm}
@@ -9,7 +8,7 @@ pub returns-then-skip-line : goal.returns-then-skip-line
 unfolding header_held
 returns-then-skip-line c =
     let found : Reading c.args.line.now header_form 0 =
-        step c.number_after-loans.ensures
+    step c.number_after-loans.ensures
     (step c.number_after-unscored.ensures
     (step c.number_after-fresh.ensures
     (step c.number_after-held.ensures
@@ -20,7 +19,7 @@ pub returns : goal.returns
 unfolding header_held
 returns c =
     let found : Reading c.args.line.now header_form 0 =
-        step c.number_after-loans.ensures
+    step c.number_after-loans.ensures
     (step c.number_after-unscored.ensures
     (step c.number_after-fresh.ensures
     (step c.number_after-held.ensures

@@ -1,4 +1,3 @@
-use borrow.Author.Rules.{rules}
 use Rattle.line_forms.specs.Contents.{index_form}
 use Rattle.line_forms.specs.Readings.{index_with, index_held}
 use Rattle.line_forms.specs.declared.Content.TheVariants.{Index, NoForm}
@@ -9,7 +8,7 @@ pub returns-then-skip-line : goal.returns-then-skip-line
 unfolding index_held
 returns-then-skip-line c =
     let found : Reading c.args.line.now index_form 0 =
-        skipped c.skip.ensures c.area_at-area.ensures
+    skipped c.skip.ensures c.area_at-area.ensures
     (step c.number_after-month.ensures
     (step c.number_after-value.ensures
     (last c.skip-2.ensures))) in
@@ -19,7 +18,7 @@ pub returns : goal.returns
 unfolding index_held
 returns c =
     let found : Reading c.args.line.now index_form 0 =
-        skipped c.skip.ensures c.area_at-area.ensures
+    skipped c.skip.ensures c.area_at-area.ensures
     (step c.number_after-month.ensures
     (step c.number_after-value.ensures
     (last c.skip-2.ensures))) in

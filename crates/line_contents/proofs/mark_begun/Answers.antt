@@ -1,4 +1,3 @@
-use borrow.Author.Rules.{rules}
 use Rattle.line_contents.proofs.mark_begun.Goals as goal
 
 -- `mark_begun` meets its contract.

@@ -1,4 +1,3 @@
-use borrow.Author.Rules.{rules}
 use Rattle.line_forms.specs.Contents.{origin_form}
 use Rattle.line_forms.proofs.Readers.{Reading, skipped, last}
 use Rattle.line_contents.proofs.origin_at.Goals as goal

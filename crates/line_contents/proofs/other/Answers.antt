@@ -3,7 +3,6 @@ use mathlib.Core.Path.{sym, ◌∙◌}
 use borrow.Author.Tests.{ne_eqb}
 use Rattle.line_forms.specs.Readings.{amount_held, content_of}
 use Rattle.line_forms.proofs.ContentLaws.{no_loan}
-use borrow.Author.Rules.{rules}
 use Rattle.line_contents.proofs.other.Goals as goal
 
 -- `other` meets its contract.

@@ -1,4 +1,3 @@
-use borrow.Author.Rules.{rules}
 use borrow.Author.Tests.{eq-eqb, ne_eqb}
 use Rattle.line_forms.specs.Readings.{plain_held}
 use Rattle.line_contents.proofs.plain.Goals as goal

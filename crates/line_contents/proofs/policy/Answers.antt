@@ -1,4 +1,3 @@
-use borrow.Author.Rules.{rules}
 use Rattle.line_forms.specs.Contents.{policy_form}
 use Rattle.line_forms.specs.Readings.{policy_with, policy_held}
 use Rattle.line_forms.specs.declared.Content.TheVariants.{Policy, NoForm}
@@ -9,7 +8,7 @@ pub returns-then-skip-line : goal.returns-then-skip-line
 unfolding policy_held
 returns-then-skip-line c =
     let found : Reading c.args.line.now policy_form 0 =
-        step c.word_after-class.ensures
+    step c.word_after-class.ensures
     (step c.number_after-premium.ensures
     (step c.number_after-term.ensures
     (step c.number_after-completed.ensures
@@ -20,7 +19,7 @@ pub returns : goal.returns
 unfolding policy_held
 returns c =
     let found : Reading c.args.line.now policy_form 0 =
-        step c.word_after-class.ensures
+    step c.word_after-class.ensures
     (step c.number_after-premium.ensures
     (step c.number_after-term.ensures
     (step c.number_after-completed.ensures

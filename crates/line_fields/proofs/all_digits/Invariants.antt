@@ -1,11 +1,8 @@
-use mathlib.Core.Path.{◌≡◌, refl, sym, ◌∙◌, ap}
-use Prim.Native.Nat.{◌+◌, ◌-◌, ◌≤◌}
-use native.Mathlib.Omega.{arith}
-use mathlib.Core.Bool.{Bool, ◌&&◌}
-use lib.ListN.{length, drop, get_or}
-use Rattle.line_forms.specs.Bytes.{all_within, within}
-use Rattle.line_forms.proofs.Bytes.{all-step, all_end, and_assoc, and-true}
-use borrow.Author.Rules.{rules}
+use mathlib.Core.Path.{◌≡◌}
+use Prim.Native.Nat.{◌-◌, ◌≤◌}
+use mathlib.Core.Bool.{◌&&◌}
+use lib.ListN.{length, drop}
+use Rattle.line_forms.specs.Bytes.{all_within}
 use Rattle.line_fields.proofs.all_digits.Given as goal
 
 -- `all_digits` meets its contract.

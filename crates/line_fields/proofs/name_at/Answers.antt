@@ -4,7 +4,6 @@ use lib.ListN.{length, drop}
 use Rattle.line_forms.proofs.Bytes.{run_fits, run-within, within-bounds}
 use Rattle.line_forms.proofs.NameLaws.{name-found, name-missing}
 use Rattle.line_fields.proofs.Numbers.{letters-written, letters-name}
-use borrow.Author.Rules.{rules}
 use Rattle.line_fields.proofs.name_at.Goals as goal
 
 -- `name_at` meets its contract.

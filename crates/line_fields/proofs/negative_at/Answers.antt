@@ -1,4 +1,3 @@
-use borrow.Author.Rules.{rules}
 use borrow.Author.Tests.{eq-eqb, ne_eqb}
 use Rattle.line_forms.specs.Parsing.{after_negative}
 use Rattle.line_fields.proofs.negative_at.Goals as goal

@@ -10,7 +10,6 @@ use Rattle.line_forms.proofs.Numerals.{count-some, none-count, none-zero, numera
 use Rattle.line_forms.proofs.Positions.{number-found, number-missing}
 use Rattle.line_forms.proofs.Bytes.{run_fits, run-within}
 use Rattle.line_fields.proofs.Numbers.{digits-written, digits_value}
-use borrow.Author.Rules.{rules}
 use Rattle.line_fields.proofs.number.Goals as goal
 
 -- `number` meets its contract.
@@ -29,12 +28,11 @@ returns-then-zero_first c =
     (c.missing-then-zero_first.ensures.0 ∙ m.0, c.missing-then-zero_first.ensures.1 ∙ m.1)
 
 pub few_value-requires : goal.few_value-requires
-few_value-requires c =
-    (
-      rw c.requires (run-within 48 57 (drop c.args.at c.args.line.now)),
-      (count-some (length c.args.digits.now) c.if-n.false).0,
-      c.if-n-le3.true,
-    )
+few_value-requires c = (
+  rw c.requires (run-within 48 57 (drop c.args.at c.args.line.now)),
+  (count-some (length c.args.digits.now) c.if-n.false).0,
+  c.if-n-le3.true,
+)
 
 pub overflow_add-result : goal.overflow_add-result
 overflow_add-result c =

@@ -1,5 +1,4 @@
 use mathlib.Core.Path.{◌∙◌}
-use borrow.Author.Rules.{rules}
 use Rattle.line_fields.proofs.number_after.Goals as goal
 
 -- `number_after` meets its contract.

@@ -1,11 +1,7 @@
-use mathlib.Core.Path.{◌≡◌, refl, sym, ◌∙◌}
+use mathlib.Core.Path.{◌≡◌}
 use Prim.Native.Nat.{◌+◌, ◌-◌, ◌^◌, ◌≤◌, ◌<◌}
-use native.Mathlib.Omega.{arith}
-use native.Mathlib.Nat.{pow-zero}
 use lib.ListN.{length, drop}
 use Rattle.line_fields.specs.Numbers.{number_from}
-use Rattle.line_fields.proofs.Numbers.{number_step, number-end, number_more, number_fits, worth-most}
-use borrow.Author.Rules.{rules}
 use Rattle.line_fields.proofs.number_of.Given as goal
 
 -- `number_of` meets its contract.

@@ -1,13 +1,8 @@
-use mathlib.Core.Path.{◌≡◌, sym, ◌∙◌}
+use mathlib.Core.Path.{◌≡◌}
 use Prim.Native.Nat.{◌-◌, ◌≤◌}
-use native.Mathlib.Omega.{arith}
-use native.Mathlib.Nat.{sub_self}
 use lib.ListN.{length, take, drop}
-use mathlib.Core.List.{◌++◌, append_assoc, append-nil}
-use borrow.Author.Rules.{rules}
-use borrow.Author.Tests.{not-true, not-false}
+use mathlib.Core.List.{◌++◌}
 use Rattle.line_forms.specs.Bytes.{run_of}
-use Rattle.line_forms.proofs.Bytes.{run_step, run-stops, run_end, part-more}
 use Rattle.line_fields.proofs.run.Given as goal
 
 -- `run` meets its contract.

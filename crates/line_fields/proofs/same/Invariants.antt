@@ -1,12 +1,8 @@
-use mathlib.Core.Path.{◌≡◌, refl, sym, ◌∙◌, ap}
-use Prim.Native.Nat.{◌+◌, ◌-◌, ◌≤◌}
-use native.Mathlib.Omega.{arith}
-use mathlib.Core.Bool.{Bool, ◌&&◌}
-use lib.Dec.{eqb}
-use lib.ListN.{length, drop, get_or}
+use mathlib.Core.Path.{◌≡◌}
+use Prim.Native.Nat.{◌-◌, ◌≤◌}
+use mathlib.Core.Bool.{◌&&◌}
+use lib.ListN.{length, drop}
 use Rattle.line_forms.specs.Bytes.{same}
-use Rattle.line_forms.proofs.Bytes.{same_step, same_end, same_length, and_assoc, and-true}
-use borrow.Author.Rules.{rules}
 use Rattle.line_fields.proofs.same.Given as goal
 
 -- `same` meets its contract.

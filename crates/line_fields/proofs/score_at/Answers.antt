@@ -4,7 +4,6 @@ use lib.ListN.{length}
 use Rattle.exact.specs.Text.{text}
 use Rattle.line_forms.proofs.Bytes.{stands-fits, run_fits}
 use Rattle.line_forms.proofs.ScoreLaws.{score-scored, score-none, score-missing}
-use borrow.Author.Rules.{rules}
 use Rattle.line_fields.proofs.score_at.Goals as goal
 
 -- `score_at` meets its contract.

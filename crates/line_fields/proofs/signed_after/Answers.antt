@@ -1,5 +1,4 @@
 use mathlib.Core.Path.{◌∙◌}
-use borrow.Author.Rules.{rules}
 use Rattle.line_fields.proofs.signed_after.Goals as goal
 
 -- `signed_after` meets its contract.

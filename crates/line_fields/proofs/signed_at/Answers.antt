@@ -2,7 +2,6 @@ use mathlib.Core.Path.{sym, ◌∙◌}
 use Prim.Native.Nat.{◌<◌}
 use native.Mathlib.Omega.{arith}
 use lib.ListN.{length}
-use borrow.Author.Rules.{rules}
 use Rattle.line_forms.proofs.Positions.{minus-inside}
 use Rattle.line_forms.specs.Parsing.{signed_at_lem, after_signed}
 use Rattle.line_fields.proofs.signed_at.Goals as goal

@@ -1,7 +1,6 @@
 use Rattle.std.proofs.Common.{sym, ◌∙◌}
 use native.Mathlib.Omega.{arith}
-use Rattle.line_forms.proofs.Bytes.{Part, tested-part, run-part}
-use borrow.Author.Rules.{rules}
+use Rattle.line_forms.proofs.Bytes.{tested-part, run-part}
 use Rattle.line_fields.proofs.six_digits.Goals as goal
 
 pub returns-then-not-digit : goal.returns-then-not-digit

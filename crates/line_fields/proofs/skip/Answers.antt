@@ -1,7 +1,6 @@
 use mathlib.Core.Path.{sym, ◌∙◌}
 use native.Mathlib.Omega.{arith}
 use Rattle.line_forms.proofs.Bytes.{stands-fits, after-true, after-false}
-use borrow.Author.Rules.{rules}
 use Rattle.line_fields.proofs.skip.Goals as goal
 
 -- `skip` meets its contract.

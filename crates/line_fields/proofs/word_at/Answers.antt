@@ -1,10 +1,8 @@
 use mathlib.Core.Path.{sym, ◌∙◌, ap}
-use Prim.Native.Nat.{◌+◌, ◌-◌, ◌≤◌}
 use native.Mathlib.Omega.{arith}
 use lib.ListN.{length}
-use borrow.Author.Rules.{rules}
 use Rattle.line_forms.proofs.Bytes.{run_fits}
-use Rattle.line_forms.proofs.Choices.{Sought, sought-start, sought-next, word-found, word-missing}
+use Rattle.line_forms.proofs.Choices.{sought-start, sought-next, word-found, word-missing}
 use Rattle.line_fields.proofs.word_at.Goals as goal
 
 pub loop-i-init : goal.loop-i-init

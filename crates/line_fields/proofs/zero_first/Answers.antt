@@ -2,7 +2,6 @@ use mathlib.Core.Path.{sym}
 use lib.ListN.{length, get_or}
 use lib.Dec.{eqb}
 use borrow.Author.Tests.{le-ltb, lt-ltb}
-use borrow.Author.Rules.{rules}
 use Rattle.line_forms.proofs.Bytes.{false-and, and-true}
 use Rattle.line_fields.proofs.zero_first.Goals as goal
 

@@ -1,5 +1,4 @@
 use mathlib.Core.Path.{sym, ◌∙◌}
-use borrow.Author.Rules.{rules}
 use Rattle.line_forms.specs.Readings.{header_for_lem}
 use Rattle.line_reading.proofs.header_for.Goals as goal
 

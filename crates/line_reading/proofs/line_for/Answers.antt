@@ -1,4 +1,3 @@
-use borrow.Author.Rules.{rules}
 use Rattle.line_forms.specs.Readings.{line_for}
 use Rattle.line_reading.proofs.line_for.Goals as goal
 

@@ -3,7 +3,6 @@ use Rattle.line_forms.specs.Readings.{header_of}
 use Rattle.line_forms.specs.Claims.{HeaderReading}
 use Rattle.line_forms.proofs.HeaderLaws.{header_reading}
 use Rattle.line_reading.proofs.Clauses.{both}
-use borrow.Author.Rules.{rules}
 use Rattle.line_reading.proofs.read_header.Goals as goal
 
 -- `read_header` meets its contract.

@@ -3,7 +3,6 @@ use Rattle.line_forms.specs.Readings.{line_of}
 use Rattle.line_forms.specs.Claims.{LineReading}
 use Rattle.line_forms.proofs.LineLaws.{line_reading}
 use Rattle.line_reading.proofs.Clauses.{both}
-use borrow.Author.Rules.{rules}
 use Rattle.line_reading.proofs.read_line.Goals as goal
 
 -- `read_line` meets its contract.

@@ -2,7 +2,6 @@ use mathlib.Core.Path.{refl, ◌∙◌, ap}
 use mathlib.Core.List.{[]}
 use Prim.Native.Nat.{ℕ, suc}
 use lib.ListN.{get_or}
-use borrow.Author.Rules.{rules}
 use Rattle.book_model.specs.Marks.{book_in_lem, cells_in, index_in, first_marks}
 use Rattle.marks.proofs.Answers.{number_15, returned}
 use Rattle.marks.proofs.back_to.Goals as goal

@@ -1,5 +1,4 @@
 use mathlib.Core.Path.{refl}
-use borrow.Author.Rules.{rules}
 use Rattle.book_model.specs.Marks.{book_in_lem}
 use Rattle.marks.proofs.book_in.Goals as goal
 

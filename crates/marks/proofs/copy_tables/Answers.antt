@@ -1,4 +1,3 @@
-use borrow.Author.Rules.{rules}
 use Rattle.book_model.specs.Marks.{cells_in, index_in}
 use Rattle.marks.proofs.copy_tables.Goals as goal
 

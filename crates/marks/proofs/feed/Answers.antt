@@ -1,5 +1,4 @@
 use lib.Dec.{eqb}
-use borrow.Author.Rules.{rules}
 use Rattle.marks.proofs.Answers.{same-either}
 use Rattle.marks.proofs.feed.Goals as goal
 

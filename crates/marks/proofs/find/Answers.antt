@@ -1,10 +1,6 @@
-use mathlib.Core.Path.{◌≡◌}
-use Prim.Native.Nat.{◌+◌, ◌-◌, ◌≤◌}
 use native.Mathlib.Numerals.{add-one}
 use native.Mathlib.Omega.{arith}
-use lib.ListN.{length, drop}
 use borrow.Author.Rules.{rules}
-use Rattle.book_model.specs.Marks.{place_among, names_in}
 use Rattle.marks.proofs.Rows.{found, passed, ended}
 use Rattle.marks.proofs.find.Goals as goal
 

@@ -1,11 +1,7 @@
 use mathlib.Core.Path.{◌≡◌}
 use Prim.Native.Nat.{◌+◌, ◌-◌, ◌≤◌}
-use native.Mathlib.Numerals.{add-one}
-use native.Mathlib.Omega.{arith}
 use lib.ListN.{length, drop}
-use borrow.Author.Rules.{rules}
 use Rattle.book_model.specs.Marks.{place_among, names_in}
-use Rattle.marks.proofs.Rows.{found, passed, ended}
 use Rattle.marks.proofs.find.Given as goal
 
 -- `find` meets its contract: after i turns the name is in none of the first i rows.

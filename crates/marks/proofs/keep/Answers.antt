@@ -1,5 +1,4 @@
 use mathlib.Core.Path.{refl}
-use borrow.Author.Rules.{rules}
 use Rattle.marks.proofs.keep.Goals as goal
 
 -- `keep` meets its contract.

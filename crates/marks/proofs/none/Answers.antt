@@ -3,7 +3,6 @@ use mathlib.Core.List.{List}
 use Prim.Native.Nat.{ℕ}
 use lib.ListN.{replicate}
 use Rattle.book_model.specs.Marks.{no_marks}
-use borrow.Author.Rules.{rules}
 use Rattle.marks.proofs.none.Goals as goal
 
 -- `none` meets its contract.

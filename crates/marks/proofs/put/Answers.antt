@@ -3,7 +3,6 @@ use Prim.Native.Nat.{◌+◌}
 use native.Mathlib.Omega.{arith}
 use lib.ListN.{length}
 use borrow.Rule.Slice.PartMut.{Post-is}
-use borrow.Author.Rules.{rules}
 use Rattle.marks.proofs.put.Goals as goal
 
 -- `put` meets its contract.

@@ -3,7 +3,6 @@ use lib.ListN.{length}
 use mathlib.Core.Path.{◌≡◌, ◌∙◌, ap}
 use Prim.Native.Nat.{ℕ}
 use native.Mathlib.Numerals.{add-one}
-use borrow.Author.Rules.{rules}
 use Rattle.book_model.specs.Marks.{first_marks}
 use Rattle.marks.proofs.restore.Goals as goal
 

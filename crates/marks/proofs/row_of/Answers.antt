@@ -1,7 +1,6 @@
 use native.Mathlib.Omega.{arith}
 use mathlib.Core.Path.{◌∙◌, ap}
 use lib.ListN.{length}
-use borrow.Author.Rules.{rules}
 use Rattle.book_model.specs.Marks.{row_of}
 use Rattle.marks.proofs.Rows.{no-row-length, laid}
 use Rattle.marks.proofs.row_of.Goals as goal

@@ -1,7 +1,6 @@
 use mathlib.Core.Path.{refl, ◌∙◌, ap}
 use Prim.Native.Nat.{ℕ}
 use lib.ListN.{set}
-use borrow.Author.Rules.{rules}
 use Rattle.book_model.specs.Marks.{row_of}
 use Rattle.marks.proofs.Answers.{number_13, number_14, marked}
 use Rattle.marks.proofs.set_mark.Goals as goal

@@ -1,6 +1,5 @@
 use Rattle.other_charges.specs.Charges.{add_on_thousandths}
 use mathlib.Core.Path.{refl}
-use borrow.Author.Rules.{rules}
 use Rattle.other_charges.proofs.add_on.Goals as goal
 
 pub returns-in-Rate : goal.returns-in-Rate

@@ -5,7 +5,6 @@ use Rattle.fixed_point.proofs.Laws.{bounded}
 use mathlib.Core.Path.{◌≡◌, refl}
 use Prim.Native.Nat.{ℕ, ◌+◌, ◌*◌, ◌≤◌}
 use native.Mathlib.Omega.{arith}
-use borrow.Author.Rules.{rules}
 use Rattle.other_charges.proofs.derivative_parts.Goals as goal
 
 addon-small : {r : ℕ} (kind : Kind) (months : ℕ) → r ≡ add_on_thousandths kind months → r ≤ 150
@@ -18,26 +17,26 @@ added n a p h k l = bounded (n * a) p (100000000000 * 150) 100 (bounded n a 1000
 pub overflow_mul-result-2 : goal.overflow_mul-result-2
 overflow_mul-result-2 c =
     omega (
-  arith,
-  bounded c.args.notional c.add_on-addon.result 100000000000 150 c.requires.1
-      (addon-small c.args.kind c.args.months c.add_on-addon.ensures),
-)
+      arith,
+      bounded c.args.notional c.add_on-addon.result 100000000000 150 c.requires.1
+          (addon-small c.args.kind c.args.months c.add_on-addon.ensures),
+    )
 
 pub overflow_mul-result-3 : goal.overflow_mul-result-3
 overflow_mul-result-3 c =
     omega (
-  arith,
-  added c.args.notional c.add_on-addon.result c.args.pays c.requires.1
-      (addon-small c.args.kind c.args.months c.add_on-addon.ensures) c.requires.2,
-)
+      arith,
+      added c.args.notional c.add_on-addon.result c.args.pays c.requires.1
+          (addon-small c.args.kind c.args.months c.add_on-addon.ensures) c.requires.2,
+    )
 
 pub overflow_add-result : goal.overflow_add-result
 overflow_add-result c =
     omega (
-  arith,
-  added c.args.notional c.add_on-addon.result c.args.pays c.requires.1
-      (addon-small c.args.kind c.args.months c.add_on-addon.ensures) c.requires.2,
-)
+      arith,
+      added c.args.notional c.add_on-addon.result c.args.pays c.requires.1
+          (addon-small c.args.kind c.args.months c.add_on-addon.ensures) c.requires.2,
+    )
 
 pub overflow_mul-result-4 : goal.overflow_mul-result-4
 overflow_mul-result-4 c =

@@ -4,7 +4,6 @@ use Rattle.other_charges.proofs.ChargeLaws.{tenths-bounded}
 use mathlib.Core.Path.{◌≡◌, refl}
 use Prim.Native.Nat.{ℕ, ◌*◌, ◌≤◌}
 use native.Mathlib.Omega.{arith}
-use borrow.Author.Rules.{rules}
 use Rattle.other_charges.proofs.provision_parts.Goals as goal
 
 tenths-small : {r : ℕ} (term done : ℕ) → r ≡ provision_tenths_lem term done → r ≤ 60

@@ -1,6 +1,5 @@
 use borrow.Author.Tests.{le-leb, lt-leb}
 use Rattle.other_charges.specs.Charges.{provision_tenths_lem}
-use borrow.Author.Rules.{rules}
 use Rattle.other_charges.proofs.provision_tenths.Goals as goal
 
 pub returns-then-term-le60 : goal.returns-then-term-le60
@@ -17,16 +16,16 @@ pub returns-then-term-le180 : goal.returns-then-term-le180
 unfolding provision_tenths_lem
 returns-then-term-le180 c =
     rw (
-  lt-leb _ _ c.if-term-le60.false,
-  lt-leb _ _ c.if-term-le120.false,
-  le-leb _ _ c.if-term-le180.true,
-) c.cell-then-term-le180.ensures
+      lt-leb _ _ c.if-term-le60.false,
+      lt-leb _ _ c.if-term-le120.false,
+      le-leb _ _ c.if-term-le180.true,
+    ) c.cell-then-term-le180.ensures
 
 pub returns : goal.returns
 unfolding provision_tenths_lem
 returns c =
     rw (
-  lt-leb _ _ c.if-term-le60.false,
-  lt-leb _ _ c.if-term-le120.false,
-  lt-leb _ _ c.if-term-le180.false,
-) c.cell-2.ensures
+      lt-leb _ _ c.if-term-le60.false,
+      lt-leb _ _ c.if-term-le120.false,
+      lt-leb _ _ c.if-term-le180.false,
+    ) c.cell-2.ensures

@@ -1,6 +1,5 @@
 use Rattle.fixed_point.proofs.Laws.{bounded}
 use native.Mathlib.Omega.{arith}
-use borrow.Author.Rules.{rules}
 use Rattle.other_charges.proofs.share_parts.Goals as goal
 
 pub overflow_mul-result : goal.overflow_mul-result

@@ -13,7 +13,11 @@ use Rattle.regions.proofs.join_file.Goals as goal
 
 pub returns-then-not-reports : goal.returns-then-not-reports
 returns-then-not-reports c =
-    file-alone c.args.asked (state_at c.args.total c.args.total_rates.now c.args.total_cells.now c.args.total_index.now no_marks) c.args.file (stage_at c.args.p [] c.args.rates.now c.args.cells.now c.args.index.now no_marks)
+    let file : Stage =
+        stage_at c.args.p [] c.args.rates.now c.args.cells.now c.args.index.now no_marks in
+    let before : State =
+        state_at c.args.total c.args.total_rates.now c.args.total_cells.now c.args.total_index.now no_marks in
+    file-alone c.args.asked before c.args.file file
     (sym (c.reports.ensures ∙ by-book c.args.p [] c.args.rates.now c.args.cells.now c.args.index.now no_marks)
     ∙ c.if-not-reports.true)
     c.put_answer-n.ensures
@@ -24,7 +28,11 @@ put_refusal-n-requires c =
 
 pub returns-then-joined-ne0 : goal.returns-then-joined-ne0
 returns-then-joined-ne0 c =
-    file-16 c.args.asked (state_at c.args.total c.args.total_rates.now c.args.total_cells.now c.args.total_index.now no_marks) c.args.file (stage_at c.args.p [] c.args.rates.now c.args.cells.now c.args.index.now no_marks)
+    let file : Stage =
+        stage_at c.args.p [] c.args.rates.now c.args.cells.now c.args.index.now no_marks in
+    let before : State =
+        state_at c.args.total c.args.total_rates.now c.args.total_cells.now c.args.total_index.now no_marks in
+    file-16 c.args.asked before c.args.file file
     (sym (c.reports.ensures ∙ by-book c.args.p [] c.args.rates.now c.args.cells.now c.args.index.now no_marks)
     ∙ c.if-not-reports.false)
     (λ z. c.if-joined-ne0.true (ap (λ (r : Joined). r.refusal) c.join-joined.ensures.equation ∙ z))
@@ -32,9 +40,13 @@ returns-then-joined-ne0 c =
 
 pub returns : goal.returns
 returns c =
+    let file : Stage =
+        stage_at c.args.p [] c.args.rates.now c.args.cells.now c.args.index.now no_marks in
+    let before : State =
+        state_at c.args.total c.args.total_rates.now c.args.total_cells.now c.args.total_index.now no_marks in
     let e = c.join-joined.ensures in
-    file-on c.args.asked (state_at c.args.total c.args.total_rates.now c.args.total_cells.now c.args.total_index.now no_marks) c.args.file (stage_at c.args.p [] c.args.rates.now c.args.cells.now c.args.index.now no_marks)
+    file-on c.args.asked before c.args.file file
     (sym (c.reports.ensures ∙ by-book c.args.p [] c.args.rates.now c.args.cells.now c.args.index.now no_marks)
     ∙ c.if-not-reports.false)
     (sym (ap (λ (r : Joined). r.refusal) e.equation) ∙ c.if-joined-ne0.false)
-    (left_by (state_at c.args.total c.args.total_rates.now c.args.total_cells.now c.args.total_index.now no_marks) (stage_at c.args.p [] c.args.rates.now c.args.cells.now c.args.index.now no_marks).state e.equation e.rates e.cells e.index e.marks) refl
+    (left_by before file.state e.equation e.rates e.cells e.index e.marks) refl

@@ -1,6 +1,5 @@
 use Rattle.book_model.specs.Share.{amount_share}
 use mathlib.Core.Path.{refl}
-use borrow.Author.Rules.{rules}
 use Rattle.shares.proofs.amount.Goals as goal
 
 pub returns-in-Claims : goal.returns-in-Claims
@@ -32,18 +31,18 @@ pub returns-in-B : goal.returns-in-B
 unfolding amount_share
 returns-in-B c =
     rw (
-  c.in-B.is,
-  c.capital-in-B.ensures,
-  c.no_amount-in-B-2.ensures,
-  c.no_amount-in-B.ensures,
-) refl
+      c.in-B.is,
+      c.capital-in-B.ensures,
+      c.no_amount-in-B-2.ensures,
+      c.no_amount-in-B.ensures,
+    ) refl
 
 pub returns-in-C : goal.returns-in-C
 unfolding amount_share
 returns-in-C c =
     rw (
-  c.in-C.is,
-  c.capital-in-C.ensures,
-  c.no_amount-in-C-2.ensures,
-  c.no_amount-in-C.ensures,
-) refl
+      c.in-C.is,
+      c.capital-in-C.ensures,
+      c.no_amount-in-C-2.ensures,
+      c.no_amount-in-C.ensures,
+    ) refl

@@ -1,6 +1,5 @@
 use mathlib.Core.Path.{refl}
 use Rattle.book_model.specs.Share.{asset_share}
-use borrow.Author.Rules.{rules}
 use Rattle.shares.proofs.asset.Goals as goal
 
 pub returns : goal.returns

@@ -1,6 +1,5 @@
 use mathlib.Core.Path.{refl}
 use Rattle.book_model.specs.Share.{derivative_share}
-use borrow.Author.Rules.{rules}
 use Rattle.shares.proofs.derivative.Goals as goal
 
 pub returns : goal.returns

@@ -1,6 +1,5 @@
 use mathlib.Core.Path.{refl}
 use Rattle.book_model.specs.Terms.{factor_for}
-use borrow.Author.Rules.{rules}
 use Rattle.shares.proofs.factor.Goals as goal
 
 pub returns : goal.returns

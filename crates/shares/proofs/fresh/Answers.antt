@@ -2,7 +2,6 @@ use mathlib.Core.Path.{refl, sym, ap}
 use mathlib.Core.Bool.{Bool}
 use Rattle.exact.specs.Choice.{pick}
 use Rattle.book_model.specs.LineKinds.{fresh_count}
-use borrow.Author.Rules.{rules}
 use borrow.Author.Tests.{le-leb, lt-leb}
 use Rattle.shares.proofs.fresh.Goals as goal
 

@@ -5,7 +5,6 @@ use Rattle.book_model.proofs.Near.{rates-chargeable, inputs-chargeable}
 use Rattle.book_model.specs.LineKinds.{kind_counts}
 use Rattle.book_model.specs.Share.{numbers_with, share_with}
 use Rattle.book_model.specs.Terms.{Terms, under}
-use borrow.Author.Rules.{rules}
 use Rattle.shares.proofs.loan.Goals as goal
 
 pub overflow_mul-value : goal.overflow_mul-value

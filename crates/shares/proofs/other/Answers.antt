@@ -1,6 +1,5 @@
 use mathlib.Core.Path.{refl}
 use Rattle.book_model.specs.LineKinds.{kind_counts}
-use borrow.Author.Rules.{rules}
 use Rattle.shares.proofs.other.Goals as goal
 
 pub returns : goal.returns

@@ -1,6 +1,5 @@
 use mathlib.Core.Path.{refl}
 use Rattle.book_model.specs.Share.{policy_share}
-use borrow.Author.Rules.{rules}
 use Rattle.shares.proofs.policy.Goals as goal
 
 pub returns-in-Home : goal.returns-in-Home

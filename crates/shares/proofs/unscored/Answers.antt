@@ -1,6 +1,5 @@
 use mathlib.Core.Path.{refl}
 use Rattle.book_model.specs.LineKinds.{unscored_count}
-use borrow.Author.Rules.{rules}
 use Rattle.shares.proofs.unscored.Goals as goal
 
 pub returns-in-Scored : goal.returns-in-Scored

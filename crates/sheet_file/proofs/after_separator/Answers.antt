@@ -1,4 +1,3 @@
-use borrow.Author.Rules.{rules}
 use borrow.Author.Tests.{lt-ltb, le-ltb}
 use Rattle.sheet_file.specs.Reading.{after_separator_lem}
 use Rattle.sheet_file.proofs.after_separator.Goals as goal

@@ -1,4 +1,3 @@
-use borrow.Author.Rules.{rules}
 use Rattle.sheet_file.proofs.Reading.{cleared}
 use Rattle.sheet_file.proofs.clear.Goals as goal
 

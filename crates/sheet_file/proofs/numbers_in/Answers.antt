@@ -1,10 +1,7 @@
-use Prim.Native.Nat.{◌-◌}
 use native.Mathlib.Omega.{arith}
 use mathlib.Core.Path.{◌≡◌, ◌∙◌}
-use lib.ListN.{length}
-use borrow.Author.Rules.{rules}
 use Rattle.sheet_file.proofs.NumberTexts.{next_at, leads-on}
-use Rattle.sheet_file.proofs.Reading.{Reading, reading-start, reading-next, reading-end, reading-past}
+use Rattle.sheet_file.proofs.Reading.{reading-start, reading-next, reading-end, reading-past}
 use Rattle.sheet_file.proofs.numbers_in.Goals as goal
 
 pub loop-at-init : goal.loop-at-init
@@ -14,13 +11,13 @@ loop-at-init c =
 pub loop-at-smaller : goal.loop-at-smaller
 loop-at-smaller c =
     let next : c.after_separator-at.result ≡ next_at c.args.bytes.now c.loop-at.at =
-        c.after_separator-at.ensures ∙ rw c.number_at-n.ensures.1 in
+    c.after_separator-at.ensures ∙ rw c.number_at-n.ensures.1 in
     omega (arith, next, leads-on c.args.bytes.now c.loop-at.at (omega arith))
 
 pub loop-at-preserved : goal.loop-at-preserved
 loop-at-preserved c =
     let next : c.after_separator-at.result ≡ next_at c.args.bytes.now c.loop-at.at =
-        c.after_separator-at.ensures ∙ rw c.number_at-n.ensures.1 in
+    c.after_separator-at.ensures ∙ rw c.number_at-n.ensures.1 in
     let p = c.put-count.ensures in
     reading-next c.loop-at.invariant (omega arith) c.number_at-n.ensures.0 next p.0 p.1
 

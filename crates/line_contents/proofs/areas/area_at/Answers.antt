@@ -2,7 +2,6 @@ use mathlib.Core.Path.{◌∙◌, ap}
 use native.Mathlib.Omega.{arith}
 use lib.ListN.{length}
 use borrow.Author.Tests.{lt-ltb, le-ltb}
-use borrow.Author.Rules.{rules}
 use Rattle.line_forms.specs.Parsing.{after_word}
 use Rattle.line_forms.proofs.Bytes.{run_fits}
 use Rattle.line_contents.proofs.areas.area_at.Goals as goal

@@ -1,7 +1,6 @@
 use mathlib.Core.Path.{sym, ◌∙◌}
 use native.Mathlib.Omega.{arith}
 use borrow.Author.Tests.{ne_eqb}
-use borrow.Author.Rules.{rules}
 use Rattle.line_forms.proofs.Bytes.{same_length, same_end, same_step}
 use Rattle.line_contents.proofs.areas.is.Goals as goal
 

@@ -4,7 +4,6 @@ use mathlib.Core.Bool.{true, false}
 use mathlib.Core.List.{List, [], ◌∷◌}
 use mathlib.Core.Path.{◌≡◌, refl, sym, ◌∙◌, ap}
 use lib.ListN.{get_or}
-use borrow.Author.Rules.{rules}
 use Rattle.line_forms.specs.Bytes.{same, all_within}
 use Rattle.line_forms.specs.Contents.{areas}
 use Rattle.line_forms.specs.Parsing.{place_of}
