@@ -11,11 +11,8 @@ use Rattle.exact.proofs.Enclosure.{below-tail}
 use Rattle.exact.proofs.Sums.{num, den, tailed, tail}
 use Rattle.exponential.specs.Table.{exponentials, entry}
 use Rattle.exponential.proofs.Rule.{Least, Rule}
+use Rattle.exponential.proofs.TestOrder.{test_order}
 use Rattle.exponential.proofs.Every.{both, both_left, both_right, every, at}
-
--- The order at which the rule is tested: the smallest that decides every entry.
-abbrev test_order : ℕ
-test_order = 46
 
 test : ℕ → ℕ → Bool
 test k t = both (leb (2 ^ 40 * den 64 test_order) (t * num k 64 test_order)) (ltb ((t - 1) * tailed k 64 test_order) (2 ^ 40 * den 64 (suc test_order)))

@@ -6,3 +6,4 @@ pub mod Promise
 pub mod Rule
 pub mod Series
 pub mod Steps
+pub mod TestOrder

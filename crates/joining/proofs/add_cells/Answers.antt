@@ -1,10 +1,9 @@
-use mathlib.Core.Path.{◌≡◌, refl}
-use Prim.Native.Nat.{ℕ, ◌+◌, ◌-◌, ◌≤◌}
+use mathlib.Core.Path.{refl}
+use Prim.Native.Nat.{◌+◌}
 use native.Mathlib.Omega.{arith}
-use lib.ListN.{length, get_or}
-use borrow.Author.Rules.{rules}
+use lib.ListN.{get_or}
 use Rattle.book_model.specs.Joining.{places, added_cells}
-use Rattle.joining.proofs.Laws.{filled, filled_next, filled-whole}
+use Rattle.joining.proofs.Laws.{filled_next, filled-whole}
 use Rattle.joining.proofs.add_cells.Goals as goal
 
 pub loop-i-init : goal.loop-i-init

@@ -1,10 +1,7 @@
-use mathlib.Core.Path.{◌≡◌, refl}
-use Prim.Native.Nat.{ℕ, ◌+◌, ◌-◌, ◌≤◌}
-use native.Mathlib.Omega.{arith}
-use lib.ListN.{length, get_or}
-use borrow.Author.Rules.{rules}
-use Rattle.book_model.specs.Joining.{places, added_cells}
-use Rattle.joining.proofs.Laws.{filled, filled_next, filled-whole}
+use mathlib.Core.Path.{◌≡◌}
+use Prim.Native.Nat.{◌+◌, ◌-◌, ◌≤◌}
+use lib.ListN.{get_or}
+use Rattle.joining.proofs.Laws.{filled}
 use Rattle.joining.proofs.add_cells.Given as goal
 
 -- `add_cells` meets its contract: after i turns the first i places are added.

@@ -1,4 +1,3 @@
-use borrow.Author.Rules.{rules}
 use Rattle.joining.proofs.Laws.{not_is}
 use Rattle.joining.proofs.alike.Goals as goal
 

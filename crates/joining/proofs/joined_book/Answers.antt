@@ -1,5 +1,4 @@
 use mathlib.Core.Path.{refl}
-use borrow.Author.Rules.{rules}
 use Rattle.joining.proofs.joined_book.Goals as goal
 
 -- `joined_book` meets its contract.

@@ -1,5 +1,4 @@
 use mathlib.Core.Path.{refl}
-use borrow.Author.Rules.{rules}
 use Rattle.book_model.specs.Joining.{keeps_choices_lem}
 use Rattle.joining.proofs.keeps_choices.Goals as goal
 

@@ -1,5 +1,4 @@
 use mathlib.Core.Path.{refl}
-use borrow.Author.Rules.{rules}
 use Rattle.book_model.specs.Joining.{may_join_lem}
 use Rattle.joining.proofs.Laws.{lines_fit}
 use Rattle.joining.proofs.may_join.Goals as goal

@@ -1,6 +1,5 @@
 use mathlib.Core.Path.{◌∙◌, ap}
 use Prim.Native.Nat.{ℕ}
-use borrow.Author.Rules.{rules}
 use Rattle.book_model.specs.Joining.{same_places, same_index_lem}
 use Rattle.joining.proofs.same_index.Goals as goal
 

@@ -1,5 +1,4 @@
 use mathlib.Core.Path.{sym, ◌∙◌}
-use borrow.Author.Rules.{rules}
 use Rattle.book_model.proofs.Closings.{gives-6, gives-9, gives-0}
 use Rattle.limits.proofs.closing_refusal.Goals as goal
 
