@@ -20,6 +20,7 @@ use loan_charge::charge::Exponentials;
 use loan_charge::credit::Rates;
 use marks::Marks;
 use sheet_file::{Numbers, Room};
+use std::alloc::AllocError;
 use std::env::{Env, FillError};
 use std::io::Read;
 use std::rt::{Files, Runtime};
@@ -107,14 +108,12 @@ fn read_all(
         result.failed }
 {
     let mut run = driver::start(rates, cells, index, marks);
-    let mut turns = MOST_READS;
-    while 0 < turns {
+    for _ in 0..MOST_READS {
         let turn = read_once(input, run, exps, sheet, rates, cells, index, marks, buf);
         if !turn.more {
             return turn;
         }
         run = turn.run;
-        turns = turns - 1;
     }
     Turn {
         run,
@@ -211,17 +210,27 @@ fn open<R: Runtime>(rt: &R, file: usize, what: &str) -> Option<R::File> {
     }
 }
 
-// Says what failed and why: the system's words, without the number of the error, which std adds to them.
+// Says what failed and why.
 fn tell(rt: &(impl Eprint + Alloc), what: &str, error: io::Error) {
-    let Ok(text) = format!(in rt.alloc(); "{error}") else {
-        let _ = eprintln!(rt; "{what}: {error}");
-        return;
-    };
-    let reason = match text.as_str().split_once(" (os error ") {
-        Some((reason, _)) => reason,
-        None => text.as_str(),
-    };
-    let _ = eprintln!(rt; "{what}: {reason}");
+    match to_text(rt, error) {
+        Ok(text) => {
+            let why = reason(text.as_str());
+            let _ = eprintln!(rt; "{what}: {why}");
+        }
+        Err(_) => say(rt, what),
+    }
+}
+
+fn to_text<R: Alloc>(rt: &R, error: io::Error) -> Result<String<R::A>, AllocError> {
+    format!(in rt.alloc(); "{error}")
+}
+
+// The system's words for an error, without its number, which std adds to them.
+fn reason(text: &str) -> &str {
+    match text.split_once(" (os error ") {
+        Some((words, _)) => words,
+        None => text,
+    }
 }
 
 // What the lines of a file gave; `failed` where it could not be read to its end.
