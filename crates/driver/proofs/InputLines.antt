@@ -3,13 +3,13 @@ use Prim.Native.Nat.{ℕ}
 use mathlib.Core.Bool.{Bool, true, false}
 use mathlib.Core.List.Memᴰ
 use mathlib.Core.List.{List, [], ◌∷◌, ◌++◌, append_assoc, append-nil, Memᴰ}
-use mathlib.Core.Logic.{◌⊎◌, inl, inr, ⊎_elim}
+use mathlib.Core.Logic.{◌⊎◌, inl, inr}
 use mathlib.Core.Path.{◌≡◌, refl, sym, ◌∙◌, ap, subst}
 use lib.Dec.{eqb}
 use borrow.Author.Tests.{eqb-true}
 use Rattle.line_bytes.specs.LineBytes.{newline, unbroken}
 use Rattle.line_bytes.proofs.FirstNewline.{unbroken-append}
-use Rattle.driver.specs.Printed.{last_of, lines_from, lines_of}
+use Rattle.driver.specs.Printed.{last_of, lines_from}
 use Rattle.driver.specs.InputLines.{with_newlines, EndsOpen, InputLines}
 
 abbrev Whole : (lines : List (List ℕ)) (input : List ℕ) → Type 0

@@ -11,7 +11,7 @@ use Rattle.line_forms.specs.Readings.{line_of}
 use Rattle.book_model.specs.declared.Book.{Book}
 use Rattle.book_model.specs.declared.Fed.{Fed}
 use Rattle.book_model.specs.declared.Opened.{Opened}
-use Rattle.book_model.specs.Calls.{State, Answer, state_at, opened_of, fed_of, opening, feeding, Sound}
+use Rattle.book_model.specs.Calls.{Answer, state_at, opened_of, fed_of, opening, feeding, Sound}
 use Rattle.book_model.proofs.Demand1.{demand1}
 use Rattle.book_model.proofs.Feeding.{rates-kept}
 use Rattle.driver.specs.declared.Progress.{Progress}

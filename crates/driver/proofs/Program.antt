@@ -21,7 +21,7 @@ use Rattle.book_model.specs.Accepted.{Accepted, counts_in, refusal_of, added, ac
 use Rattle.book_model.specs.Calls.{State, opening, feeding, lacks_lines}
 use Rattle.book_model.specs.Demand3.{report_for}
 use Rattle.book_model.specs.Examples.{worked_header, worked_lines, worked_report}
-use Rattle.book_model.specs.History.{History, opened, fed, all_fed, terms_of, accepted_of, lines_taken}
+use Rattle.book_model.specs.History.{History, opened, fed, all_fed, terms_of, accepted_of}
 use Rattle.book_model.specs.LoanTable.{cells_for}
 use Rattle.book_model.specs.Terms.{Terms}
 use Rattle.book_model.proofs.Demand2.{openings, feeding-answer}

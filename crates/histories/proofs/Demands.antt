@@ -43,7 +43,6 @@ use Rattle.book_model.proofs.Joining.{joining-holds}
 use Rattle.book_model.proofs.LoanTable.{cell-is, cell-sums, cells-written, same_tables}
 use Rattle.book_model.proofs.IndexTables.{values-are}
 use Rattle.book_model.proofs.Ledger.{ledger-of, good_of}
-use Rattle.book_model.proofs.OwnFactors.{own_factors}
 use Rattle.book_model.proofs.SetValues.{not_set}
 use Rattle.book_model.proofs.Standing.{standing, marks, returned-to, line-fed}
 use Rattle.book_model.proofs.Steps.{state_of, names-are}

@@ -7,7 +7,7 @@ use native.Mathlib.Omega.{arith}
 use native.Mathlib.Numerals.{add-one}
 use lib.Dec.{eqb}
 use lib.ListN.{length, take, drop, get_or, take-append-drop, drop_of_length-le}
-use lib.Seq.{take-suc, take_all, take-length, drop-drop, drop-append-le, drop-cons, length-take-le}
+use lib.Seq.{take-suc, take_all, drop-drop, drop-append-le, drop-cons, length-take-le}
 use borrow.Author.Tests.{eqb-true, eq-eqb, ne_eqb}
 use Rattle.line_bytes.specs.LineBytes.{newline, unbroken, index_after, index_of}
 

@@ -1,8 +1,7 @@
-use Rattle.book_model.specs.Calls.{State, state_at}
+use Rattle.book_model.specs.Calls.{state_at}
 use Rattle.book_model.specs.Marks.{no_marks}
 use Rattle.book_model.specs.Ranges.{AdjustmentRanges}
 use Rattle.book.proofs.Answers.{loan-refused, loan-lacks, ranges, loan-asks, cell-asks, loan-taken}
-use borrow.Author.Rules.{rules}
 use Rattle.book.proofs.add_loan.Goals as goal
 
 pub returns-then-loan_beyond : goal.returns-then-loan_beyond
@@ -25,14 +24,14 @@ returns-then-is_lacking c =
 pub place_of-place-requires : goal.place_of-place-requires
 place_of-place-requires c =
     let ranged : AdjustmentRanges c.adjustment-a.result =
-        ranges (state_at c.args.b c.args.rates.now c.args.cells.now c.args.index.now no_marks) c.args.l c.loan_beyond.ensures c.if-loan_beyond.false c.adjustment-a.ensures
+    ranges (state_at c.args.b c.args.rates.now c.args.cells.now c.args.index.now no_marks) c.args.l c.loan_beyond.ensures c.if-loan_beyond.false c.adjustment-a.ensures
     c.is_lacking.ensures c.if-is_lacking.false c.requires.0 in
     (c.requires.1, ranged)
 
 pub loan-share-requires : goal.loan-share-requires
 loan-share-requires c =
     let ranged : AdjustmentRanges c.adjustment-a.result =
-        ranges (state_at c.args.b c.args.rates.now c.args.cells.now c.args.index.now no_marks) c.args.l c.loan_beyond.ensures c.if-loan_beyond.false c.adjustment-a.ensures
+    ranges (state_at c.args.b c.args.rates.now c.args.cells.now c.args.index.now no_marks) c.args.l c.loan_beyond.ensures c.if-loan_beyond.false c.adjustment-a.ensures
     c.is_lacking.ensures c.if-is_lacking.false c.requires.0 in
     (c.requires.1, ranged, c.requires.2, c.requires.0.rates)
 

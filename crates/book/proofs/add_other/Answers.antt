@@ -1,4 +1,3 @@
-use borrow.Author.Rules.{rules}
 use lib.Dec.{leb}
 use mathlib.Core.Path.{refl, sym, ◌∙◌}
 use Rattle.book_model.specs.Accepted.{most_other}

@@ -2,7 +2,6 @@ use mathlib.Core.Path.{sym, ◌∙◌}
 use lib.ListN.{length}
 use Rattle.book_model.specs.Calls.{report_size}
 use Rattle.book_model.proofs.Closings.{refused, written, closes-0}
-use borrow.Author.Rules.{rules}
 use Rattle.book.proofs.close.Goals as goal
 
 pub returns-then-refusal-ne0 : goal.returns-then-refusal-ne0

@@ -2,7 +2,7 @@ use mathlib.Core.Path.{refl, ap, subst}
 use Rattle.line_forms.specs.declared.Line.{Line}
 use Rattle.line_forms.specs.declared.Line.TheVariants.{Policy as PolicyLine, Derivative as DerivativeLine, Asset as AssetLine, Amount as AmountLine}
 use Rattle.line_forms.specs.Claims.{line_content}
-use Rattle.book_model.specs.Calls.{State, Answer, state_at, fed_of}
+use Rattle.book_model.specs.Calls.{Answer, state_at, fed_of}
 use Rattle.book_model.specs.Cells.{cells_with}
 use Rattle.book_model.specs.HouseIndex.{index_with}
 use Rattle.book_model.specs.LineKinds.{content_kind}
@@ -10,7 +10,6 @@ use Rattle.book_model.specs.Ranges.{Ranged, PolicyRanges, AmountRanges}
 use Rattle.book_model.specs.Share.{share}
 use Rattle.book_model.proofs.Feeding.{fed-refused}
 use Rattle.book.proofs.Answers.{without-marks, loan-fed, index-fed, mark-fed, other-asked, other-fed}
-use borrow.Author.Rules.{rules}
 use Rattle.book.proofs.feed_line.Goals as goal
 
 pub add_loan-requires : goal.add_loan-requires

@@ -1,4 +1,3 @@
-use borrow.Author.Rules.{rules}
 use Rattle.book.proofs.open.Goals as goal
 
 pub returns : goal.returns

@@ -1,5 +1,4 @@
 use Rattle.book.proofs.Answers.{opened, not_opened}
-use borrow.Author.Rules.{rules}
 use Rattle.book.proofs.open_sheet.Goals as goal
 
 pub returns-in-Header : goal.returns-in-Header

@@ -1,6 +1,5 @@
 use mathlib.Core.Path.{sym, ◌∙◌}
 use Rattle.book.proofs.Answers.{passed, turned_down}
-use borrow.Author.Rules.{rules}
 use Rattle.book.proofs.open_under.Goals as goal
 
 pub fill-requires : goal.fill-requires

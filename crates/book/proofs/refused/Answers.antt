@@ -1,7 +1,6 @@
 use mathlib.Core.Path.{ap}
 use Rattle.book_model.specs.declared.Book.{Book}
 use Rattle.book_model.specs.declared.Opened.{Opened}
-use borrow.Author.Rules.{rules}
 use Rattle.book.proofs.refused.Goals as goal
 
 pub returns : goal.returns

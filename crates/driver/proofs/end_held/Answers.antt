@@ -1,6 +1,5 @@
 use native.Mathlib.Omega.{arith}
 use lib.ListN.{length-set, length-take}
-use borrow.Author.Rules.{rules}
 use Rattle.driver.specs.Reading.{stage_at}
 use Rattle.driver.proofs.Runs.{held-ended}
 use Rattle.driver.proofs.end_held.Goals as goal
@@ -10,10 +9,10 @@ use Rattle.driver.proofs.end_held.Goals as goal
 pub slice_bounds-lines-end : goal.slice_bounds-lines-end
 slice_bounds-lines-end c =
     omega (
-  arith,
-  length-set c.args.tail.now
-      c.args.held 10,
-)
+      arith,
+      length-set c.args.tail.now
+          c.args.held 10,
+    )
 
 pub lines-read-requires : goal.lines-read-requires
 lines-read-requires c =

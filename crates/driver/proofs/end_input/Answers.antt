@@ -2,7 +2,6 @@ use mathlib.Core.Path.{◌≡◌, refl, sym, ◌∙◌}
 use native.Mathlib.Omega.{arith}
 use lib.ListN.{length, take}
 use lib.Seq.{length-take-le}
-use borrow.Author.Rules.{rules}
 use Rattle.driver.specs.Printed.{ended_with}
 use Rattle.driver.specs.Reading.{stage_at}
 use Rattle.driver.proofs.Runs.{ended-line}

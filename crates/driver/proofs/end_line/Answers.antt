@@ -1,4 +1,3 @@
-use borrow.Author.Rules.{rules}
 use Rattle.driver.proofs.LineLaws.{ended-refused, ended-opened, ended-fed}
 use Rattle.driver.proofs.end_line.Goals as goal
 

@@ -1,5 +1,3 @@
-use mathlib.Core.Path.{◌≡◌}
-use borrow.Author.Rules.{rules}
 use Rattle.driver.specs.Reading.{reading_of}
 use Rattle.driver.proofs.Runs.{prints}
 use Rattle.driver.proofs.finish.Goals as goal

@@ -1,12 +1,10 @@
 use mathlib.Core.List.{[]}
 use mathlib.Core.Path.{◌≡◌, sym, ◌∙◌, ap}
-use Prim.Native.Nat.{ℕ, ◌+◌, ◌-◌, ◌≤◌}
+use Prim.Native.Nat.{ℕ, ◌-◌}
 use native.Mathlib.Omega.{arith}
-use lib.ListN.{length, take, drop, length-drop}
+use lib.ListN.{length, drop, length-drop}
 use lib.Seq.{drop-length}
 use borrow.Author.Rules.{rules}
-use Rattle.loan_charge.specs.Tables.{exponentials}
-use Rattle.book_model.specs.Calls.{state_at, Sound}
 use Rattle.line_bytes.specs.LineBytes.{unbroken}
 use Rattle.line_bytes.proofs.FirstNewline.{none_found}
 use Rattle.driver.specs.Reading.{with_bytes, stage_at}
@@ -27,10 +25,10 @@ returns-then-size-end c =
     record {
       equation = l.invariant.0;
       rest = (
-          l.invariant.3,
-          none_found (drop l.i bytes) (c.line_end-end.result - l.i) (omega (arith, c.line_end-end.ensures.equation))
-              (omega (arith, c.if-size-end.true)),
-        );
+        l.invariant.3,
+        none_found (drop l.i bytes) (c.line_end-end.result - l.i) (omega (arith, c.line_end-end.ensures.equation))
+            (omega (arith, c.if-size-end.true)),
+      );
       sound = l.invariant.1;
       number = l.invariant.2;
     }
@@ -43,12 +41,12 @@ end_line-p-requires c =
 pub overflow_add-i : goal.overflow_add-i
 overflow_add-i c =
     record {
-  fits = omega (
-    arith,
-    c.requires.1,
-    c.if-size-end.false,
-  );
-}
+      fits = omega (
+        arith,
+        c.requires.1,
+        c.if-size-end.false,
+      );
+    }
 
 pub loop-i-preserved : goal.loop-i-preserved
 loop-i-preserved c =

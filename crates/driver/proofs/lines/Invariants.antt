@@ -1,16 +1,10 @@
 use mathlib.Core.List.{[]}
-use mathlib.Core.Path.{◌≡◌, sym, ◌∙◌, ap}
-use Prim.Native.Nat.{ℕ, ◌+◌, ◌-◌, ◌≤◌}
-use native.Mathlib.Omega.{arith}
-use lib.ListN.{length, take, drop, length-drop}
-use lib.Seq.{drop-length}
-use borrow.Author.Rules.{rules}
+use mathlib.Core.Path.{◌≡◌}
+use Prim.Native.Nat.{◌+◌, ◌-◌, ◌≤◌}
+use lib.ListN.{length, take}
 use Rattle.loan_charge.specs.Tables.{exponentials}
 use Rattle.book_model.specs.Calls.{state_at, Sound}
-use Rattle.line_bytes.specs.LineBytes.{unbroken}
-use Rattle.line_bytes.proofs.FirstNewline.{none_found}
 use Rattle.driver.specs.Reading.{with_bytes, stage_at}
-use Rattle.driver.proofs.Bytes.{line_read}
 use Rattle.driver.proofs.lines.Given as goal
 
 -- `lines` meets its contract.

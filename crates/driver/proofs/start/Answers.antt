@@ -1,7 +1,6 @@
 use mathlib.Core.List.{[]}
 use mathlib.Core.Path.{◌≡◌, refl, sym, subst}
 use native.Mathlib.Omega.{arith}
-use borrow.Author.Rules.{rules}
 use Rattle.book_model.specs.Calls.{State, state_at, empty_state, Sound}
 use Rattle.book_model.specs.Terms.{refused_terms}
 use Rattle.book_model.proofs.Feeding.{refused-sound}
@@ -22,11 +21,11 @@ returns c =
     record {
       equation = λ sheet i. record { stage = record { refusal = 0; number = 1; sheet = sheet; state = sym s i }; tail = [] };
       running = record {
-          sound = subst (λ (x : State). Sound x) s refused-sound;
-          number = omega arith;
-          held = omega arith;
-          room = c.no_bytes.ensures;
-          unended = refl;
-        };
+        sound = subst (λ (x : State). Sound x) s refused-sound;
+        number = omega arith;
+        held = omega arith;
+        room = c.no_bytes.ensures;
+        unended = refl;
+      };
       none = refl;
     }

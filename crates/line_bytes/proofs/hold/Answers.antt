@@ -1,9 +1,9 @@
 use lib.Seq.{take_all, length-take-le}
 use mathlib.Core.Path.{◌≡◌, refl, ◌∙◌, ap}
 use mathlib.Core.List.{List, [], ◌∷◌}
-use Prim.Native.Nat.{ℕ, ◌-◌, ◌≤◌}
+use Prim.Native.Nat.{ℕ}
 use native.Mathlib.Omega.{arith}
-use lib.ListN.{length, take, drop, get_or}
+use lib.ListN.{length, take, get_or}
 use borrow.Author.Rules.{rules}
 use Rattle.line_bytes.specs.LineBytes.{with_tail}
 use Rattle.line_bytes.proofs.Tail.{tail_none, tail-next, rest-later}

@@ -1,12 +1,7 @@
-use lib.Seq.{take_all, length-take-le}
-use mathlib.Core.Path.{◌≡◌, refl, ◌∙◌, ap}
-use mathlib.Core.List.{List, [], ◌∷◌}
-use Prim.Native.Nat.{ℕ, ◌-◌, ◌≤◌}
-use native.Mathlib.Omega.{arith}
-use lib.ListN.{length, take, drop, get_or}
-use borrow.Author.Rules.{rules}
+use mathlib.Core.Path.{◌≡◌}
+use Prim.Native.Nat.{◌-◌, ◌≤◌}
+use lib.ListN.{length, take, drop}
 use Rattle.line_bytes.specs.LineBytes.{with_tail}
-use Rattle.line_bytes.proofs.Tail.{tail_none, tail-next, rest-later}
 use Rattle.line_bytes.proofs.hold.Given as goal
 
 -- `hold` meets its contract.

@@ -1,6 +1,5 @@
 use native.Mathlib.Omega.{arith}
 use lib.ListN.{length}
-use borrow.Author.Rules.{rules}
 use Rattle.printing.proofs.Answers.{refusal-room, printed-refused, printed-empty, printed-end}
 use Rattle.printing.proofs.put_answer.Goals as goal
 

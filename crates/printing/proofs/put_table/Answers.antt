@@ -1,4 +1,3 @@
-use borrow.Author.Rules.{rules}
 use Rattle.printing.proofs.Answers.{table-written}
 use Rattle.printing.proofs.put_table.Goals as goal
 

@@ -1,8 +1,7 @@
-use mathlib.Core.Path.{◌≡◌, refl, sym, ◌∙◌, ap}
+use mathlib.Core.Path.{refl, sym, ◌∙◌, ap}
 use mathlib.Core.List.{[]}
 use native.Mathlib.Omega.{arith}
 use lib.ListN.{length}
-use borrow.Author.Rules.{rules}
 use Rattle.book_model.specs.declared.Joined.{Joined}
 use Rattle.book_model.specs.Calls.{State, state_at}
 use Rattle.book_model.specs.Marks.{no_marks}
@@ -14,9 +13,9 @@ use Rattle.regions.proofs.join_file.Goals as goal
 pub returns-then-not-reports : goal.returns-then-not-reports
 returns-then-not-reports c =
     let file : Stage =
-        stage_at c.args.p [] c.args.rates.now c.args.cells.now c.args.index.now no_marks in
+    stage_at c.args.p [] c.args.rates.now c.args.cells.now c.args.index.now no_marks in
     let before : State =
-        state_at c.args.total c.args.total_rates.now c.args.total_cells.now c.args.total_index.now no_marks in
+    state_at c.args.total c.args.total_rates.now c.args.total_cells.now c.args.total_index.now no_marks in
     file-alone c.args.asked before c.args.file file
     (sym (c.reports.ensures ∙ by-book c.args.p [] c.args.rates.now c.args.cells.now c.args.index.now no_marks)
     ∙ c.if-not-reports.true)
@@ -29,9 +28,9 @@ put_refusal-n-requires c =
 pub returns-then-joined-ne0 : goal.returns-then-joined-ne0
 returns-then-joined-ne0 c =
     let file : Stage =
-        stage_at c.args.p [] c.args.rates.now c.args.cells.now c.args.index.now no_marks in
+    stage_at c.args.p [] c.args.rates.now c.args.cells.now c.args.index.now no_marks in
     let before : State =
-        state_at c.args.total c.args.total_rates.now c.args.total_cells.now c.args.total_index.now no_marks in
+    state_at c.args.total c.args.total_rates.now c.args.total_cells.now c.args.total_index.now no_marks in
     file-16 c.args.asked before c.args.file file
     (sym (c.reports.ensures ∙ by-book c.args.p [] c.args.rates.now c.args.cells.now c.args.index.now no_marks)
     ∙ c.if-not-reports.false)
@@ -41,9 +40,9 @@ returns-then-joined-ne0 c =
 pub returns : goal.returns
 returns c =
     let file : Stage =
-        stage_at c.args.p [] c.args.rates.now c.args.cells.now c.args.index.now no_marks in
+    stage_at c.args.p [] c.args.rates.now c.args.cells.now c.args.index.now no_marks in
     let before : State =
-        state_at c.args.total c.args.total_rates.now c.args.total_cells.now c.args.total_index.now no_marks in
+    state_at c.args.total c.args.total_rates.now c.args.total_cells.now c.args.total_index.now no_marks in
     let e = c.join-joined.ensures in
     file-on c.args.asked before c.args.file file
     (sym (c.reports.ensures ∙ by-book c.args.p [] c.args.rates.now c.args.cells.now c.args.index.now no_marks)

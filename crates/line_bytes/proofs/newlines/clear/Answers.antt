@@ -1,9 +1,6 @@
 use lib.Seq.{take_all}
-use mathlib.Core.Path.{◌≡◌, refl, ◌∙◌, ap}
-use Prim.Native.Nat.{◌-◌, ◌≤◌}
+use mathlib.Core.Path.{refl, ◌∙◌, ap}
 use native.Mathlib.Omega.{arith}
-use lib.ListN.{length, take}
-use borrow.Author.Rules.{rules}
 use Rattle.line_bytes.specs.LineBytes.{unbroken}
 use Rattle.line_bytes.proofs.FirstNewline.{unbroken-next}
 use Rattle.line_bytes.proofs.newlines.clear.Goals as goal

@@ -1,11 +1,7 @@
-use lib.Seq.{take_all}
-use mathlib.Core.Path.{◌≡◌, refl, ◌∙◌, ap}
+use mathlib.Core.Path.{◌≡◌}
 use Prim.Native.Nat.{◌-◌, ◌≤◌}
-use native.Mathlib.Omega.{arith}
 use lib.ListN.{length, take}
-use borrow.Author.Rules.{rules}
 use Rattle.line_bytes.specs.LineBytes.{unbroken}
-use Rattle.line_bytes.proofs.FirstNewline.{unbroken-next}
 use Rattle.line_bytes.proofs.newlines.clear.Given as goal
 
 -- `newlines::clear` meets its contract.

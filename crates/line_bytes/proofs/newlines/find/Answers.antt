@@ -1,4 +1,4 @@
-use Rattle.std.proofs.Common.{sym, ◌∙◌, ap, arith, ◌+◌}
+use Rattle.std.proofs.Common.{◌∙◌, arith}
 use Rattle.line_bytes.proofs.FirstNewline.{index_here, index_later, index_end}
 use Rattle.line_bytes.proofs.newlines.find.Goals as goal
 

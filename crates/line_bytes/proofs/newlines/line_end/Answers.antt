@@ -2,7 +2,6 @@ use mathlib.Core.Path.{◌≡◌, sym, ◌∙◌}
 use Prim.Native.Nat.{◌+◌, ◌-◌}
 use native.Mathlib.Omega.{arith}
 use lib.ListN.{length, drop, length-drop}
-use borrow.Author.Rules.{rules}
 use Rattle.line_bytes.specs.LineBytes.{index_of}
 use Rattle.line_bytes.specs.LineBytes.{newline}
 use Rattle.line_bytes.proofs.FirstNewline.{index-inside}

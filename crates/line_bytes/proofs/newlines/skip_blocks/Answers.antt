@@ -1,12 +1,9 @@
 use mathlib.Core.Bool.{true}
-use borrow.Author.Tests.{not-false}
 use mathlib.Core.Path.{◌≡◌, sym, ◌∙◌}
-use Prim.Native.Nat.{◌+◌, ◌-◌, ◌≤◌}
+use Prim.Native.Nat.{◌+◌, ◌-◌}
 use native.Mathlib.Omega.{arith}
 use lib.ListN.{length, take, drop, length-drop}
-use borrow.Author.Rules.{rules}
-use Rattle.line_bytes.specs.LineBytes.{index_of}
-use Rattle.line_bytes.specs.LineBytes.{newline, unbroken}
+use Rattle.line_bytes.specs.LineBytes.{unbroken}
 use Rattle.line_bytes.proofs.FirstNewline.{block-skipped}
 use Rattle.line_bytes.proofs.newlines.skip_blocks.Goals as goal
 

@@ -1,13 +1,8 @@
-use mathlib.Core.Bool.{true}
-use borrow.Author.Tests.{not-false}
-use mathlib.Core.Path.{◌≡◌, sym, ◌∙◌}
+use mathlib.Core.Path.{◌≡◌}
 use Prim.Native.Nat.{◌+◌, ◌-◌, ◌≤◌}
-use native.Mathlib.Omega.{arith}
-use lib.ListN.{length, take, drop, length-drop}
-use borrow.Author.Rules.{rules}
+use lib.ListN.{length, drop}
 use Rattle.line_bytes.specs.LineBytes.{index_of}
-use Rattle.line_bytes.specs.LineBytes.{newline, unbroken}
-use Rattle.line_bytes.proofs.FirstNewline.{block-skipped}
+use Rattle.line_bytes.specs.LineBytes.{newline}
 use Rattle.line_bytes.proofs.newlines.skip_blocks.Given as goal
 
 -- `newlines::skip_blocks` meets its contract.

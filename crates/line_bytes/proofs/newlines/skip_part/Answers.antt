@@ -1,9 +1,8 @@
 use mathlib.Core.Bool.{true}
-use mathlib.Core.Path.{◌≡◌, refl, sym, ◌∙◌}
+use mathlib.Core.Path.{◌≡◌, sym, ◌∙◌}
 use Prim.Native.Nat.{◌+◌, ◌-◌}
 use native.Mathlib.Omega.{arith}
 use lib.ListN.{length, take, drop, length-drop}
-use borrow.Author.Rules.{rules}
 use Rattle.line_bytes.specs.LineBytes.{unbroken}
 use Rattle.line_bytes.proofs.FirstNewline.{block-skipped}
 use Rattle.line_bytes.proofs.newlines.skip_part.Goals as goal
