@@ -23,6 +23,8 @@ TOP = ("crates", "tests", "tools", "bench", "docs", "examples", ".ci")
 PARTS = ("must-fail", "specs", "proofs", "src")
 # Names from outside the repository, and words that stand for others.
 KNOWN = {"NAME", "LABEL", "FILE", "refusedN", "lem", "ac"}
+# Its texts have names that are no more.
+RESPELL = ROOT / "tools" / "respell.py"
 WORD = r"[A-Za-z_][A-Za-z0-9_]*(?:['-][A-Za-z0-9_]+)*'*"
 LISTED = rf"`{WORD}(?:(?:\.|::){WORD})*(?:\(\))?`"
 GROUP = rf"{LISTED}(?:(?:, | and |, and ){LISTED})*"
@@ -41,17 +43,22 @@ def words_of(text):
     return found | {part for word in found for part in word.split("-")}
 
 
+def kept(pattern):
+    """The files of a pattern but for what is made, in folders named out."""
+    return [path for path in ROOT.glob(pattern) if "out" not in path.relative_to(ROOT).parts]
+
+
 def names():
     """Every name of the repository."""
     found = set(KNOWN)
-    for path in ROOT.glob("crates/*/**/*"):
+    for path in kept("crates/*/**/*"):
         if path.suffix in (".rt", ".antt"):
             found |= words_of(code_of(path))
         if path.suffix in (".rt", ".antt", ".edit"):
             found |= {path.stem, path.name}
     for folder in ("tests", "tools", "bench", "examples", ".ci"):
-        for path in ROOT.glob(f"{folder}/**/*"):
-            if path.is_file() and path.suffix not in (".md", ".pyc", ".report", ".cells") and path != Path(__file__).resolve():
+        for path in kept(f"{folder}/**/*"):
+            if path.is_file() and path.suffix not in (".md", ".pyc", ".report", ".cells") and path not in (Path(__file__).resolve(), RESPELL):
                 found |= words_of(path.read_text(encoding="utf-8", errors="replace")) | {path.stem, path.name}
     found |= words_of((ROOT / "capital").read_text(encoding="utf-8"))
     return found | {path.name for path in ROOT.rglob("*.md")} | {path.name for path in ROOT.glob("crates/*")} | set(PARTS)
@@ -172,7 +179,7 @@ def promises_problems(pages):
     """What is promised and no record, taken and not used, or left out of what is promised: as (right, wrong)."""
     code = code_of(PROMISES)
     files = {}  # where what is taken from another file stands: a name, or a module
-    for crate, inside, module, these in re.findall(rf"(?m)^use Rattle·(\w+)\.(specs\.\w+)(?: as ({WORD})|\.\{{(.*)\}})$", code):
+    for crate, inside, module, these in re.findall(rf"(?m)^use Rattle\.(\w+)\.(specs\.\w+)(?: as ({WORD})|\.\{{(.*)\}})$", code):
         files |= dict.fromkeys([module] if module else these.split(", "), ROOT / "crates" / crate / (inside.replace(".", "/") + ".antt"))
     fields = re.findall(rf"(?m)^  pub {WORD} : (.*)$", code)
     promised = {}  # each record by its whole name, after the arguments for which it holds
@@ -180,7 +187,7 @@ def promises_problems(pages):
         name = re.split("→ ", field)[-1].split()[0]
         promised[name] = files.get(name.split(".")[0], PROMISES)
     said = {f"{PROMISES.name}: {name} is no record": name.split(".")[-1] in records_of(path) for name, path in promised.items()}
-    used = words_of(" ".join(fields))
+    used = set(re.findall(r"[^\s(){},.:]+", " ".join(fields)))
     said |= {f"{PROMISES.name}: {name} is taken and not used": name in used for name in files}
     of_calls = {name for path in ROOT.glob("crates/histories/specs/*.antt") for name in records_of(path) if name.startswith("Calls")}
     said |= {f"{PROMISES.name}: {name} is not promised": name in promised for name in of_calls}
