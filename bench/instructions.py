@@ -60,7 +60,7 @@ def main():
         print("no valgrind here: the instructions of a loan are not counted\n0 passed, 0 failed")
         return
     if not PROGRAM.is_file():
-        sys.exit("no target/bin/capital: `rt check capital` proves and builds it")
+        sys.exit("no crates/capital/out/capital: `rt run` in crates/capital proves and builds it")
     found = a_loan()
     well = found <= LIMIT
     print(f"{found:.0f} instructions a loan, at most {LIMIT}")

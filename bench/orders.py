@@ -2,15 +2,13 @@
 
 The object file is the proved one, and linker and words are the kit's; one word more orders the functions by a seed.
 """
-import os
-import platform
 import shutil
 import subprocess
 from pathlib import Path
 
 from processes import ROOT, WORK
 
-OBJECT = ROOT / "target" / "obj" / "capital.o"
+OBJECT = ROOT / "crates" / "capital" / "out" / "capital.o"
 
 
 def linked(seeds):
@@ -18,8 +16,7 @@ def linked(seeds):
     rt = shutil.which("rt")
     if not rt or not OBJECT.is_file():
         return []
-    home = Path(os.environ.get("RATTLE_HOME") or Path(rt).resolve().parent.parent)
-    kit = home / "on" / platform.machine()
+    kit = Path(rt).resolve().parent.parent
     programs = []
     for seed in seeds:
         tools, program = WORK / "linker", WORK / f"capital.order{seed}"
@@ -30,7 +27,7 @@ def linked(seeds):
         linker = tools / "bin" / "ld.lld"
         linker.write_text(f"#!/bin/sh\nexec {kit}/toolchain/bin/ld.lld \"$@\" --shuffle-sections='.text.*={seed}'\n")
         linker.chmod(0o755)
-        words = [kit / "bin" / "rattle-link", "--target", "x86_64-unknown-linux-gnu", "--toolchain", tools, "-o", program, OBJECT, home / "lib" / "libos_c.a"]
+        words = [kit / "bin" / "rattle-link", "--target", "x86_64-unknown-linux-gnu", "--toolchain", tools, "-o", program, OBJECT, *(kit / "c" / f"lib{name}_c.a" for name in ("os", "libc"))]
         if subprocess.run([str(word) for word in words], stdout=subprocess.DEVNULL, stderr=subprocess.DEVNULL, check=False).returncode:
             return []
         programs.append(program)

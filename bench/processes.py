@@ -7,8 +7,8 @@ import time
 from pathlib import Path
 
 ROOT = Path(__file__).resolve().parent.parent
-PROGRAM = ROOT / "target" / "bin" / "capital"
-WORK = ROOT / "target" / "bench"
+PROGRAM = ROOT / "crates" / "capital" / "out" / "capital"
+WORK = ROOT / "bench" / "out"
 PEER = WORK / "peer"
 
 

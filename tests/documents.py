@@ -1,7 +1,8 @@
 #!/usr/bin/env python3
 """Checks what the pages name in backquotes: that the files are there, that the names are, and that each stands in the file it is said to be in.
 
-Pages are README.md, all of docs/, and the README.md of other folders. What is checked:
+Pages are README.md, all of docs/, and the README.md of other folders; but for docs/PORT*.md, which have names of before beside those of today. What
+is checked:
 
 - a file: `crates/..`, `tests/..` and so on, or CRATE/must-fail/LABEL. NAME stands for any crate.
 - a name: a word, or several joined by `.` or `::`, as `Closes.answers` or `figures::add`. Each part must be a name in crates/ (source,
@@ -23,6 +24,8 @@ TOP = ("crates", "tests", "tools", "bench", "docs", "examples", ".ci")
 PARTS = ("must-fail", "specs", "proofs", "src")
 # Names from outside the repository, and words that stand for others.
 KNOWN = {"NAME", "LABEL", "FILE", "refusedN", "lem", "ac"}
+# Its texts have names that are no more.
+RESPELL = ROOT / "tools" / "respell.py"
 WORD = r"[A-Za-z_][A-Za-z0-9_]*(?:['-][A-Za-z0-9_]+)*'*"
 LISTED = rf"`{WORD}(?:(?:\.|::){WORD})*(?:\(\))?`"
 GROUP = rf"{LISTED}(?:(?:, | and |, and ){LISTED})*"
@@ -41,17 +44,22 @@ def words_of(text):
     return found | {part for word in found for part in word.split("-")}
 
 
+def kept(pattern):
+    """The files of a pattern but for what is made, in folders named out."""
+    return [path for path in ROOT.glob(pattern) if "out" not in path.relative_to(ROOT).parts]
+
+
 def names():
     """Every name of the repository."""
     found = set(KNOWN)
-    for path in ROOT.glob("crates/*/**/*"):
+    for path in kept("crates/*/**/*"):
         if path.suffix in (".rt", ".antt"):
             found |= words_of(code_of(path))
         if path.suffix in (".rt", ".antt", ".edit"):
             found |= {path.stem, path.name}
     for folder in ("tests", "tools", "bench", "examples", ".ci"):
-        for path in ROOT.glob(f"{folder}/**/*"):
-            if path.is_file() and path.suffix not in (".md", ".pyc", ".report", ".cells") and path != Path(__file__).resolve():
+        for path in kept(f"{folder}/**/*"):
+            if path.is_file() and path.suffix not in (".md", ".pyc", ".report", ".cells") and path not in (Path(__file__).resolve(), RESPELL):
                 found |= words_of(path.read_text(encoding="utf-8", errors="replace")) | {path.stem, path.name}
     found |= words_of((ROOT / "capital").read_text(encoding="utf-8"))
     return found | {path.name for path in ROOT.rglob("*.md")} | {path.name for path in ROOT.glob("crates/*")} | set(PARTS)
@@ -62,6 +70,8 @@ def places(name):
     first, *others = name.split("/")
     if "NAME" in others:
         return []
+    if first == "crates" and len(others) == 3 and others[1] == "out":  # what rt and the launcher make of a program
+        return [ROOT / "crates" / others[0] / "src" / "main.rt"]
     if first in TOP and others:
         return list(ROOT.glob(name)) if "*" in name else [ROOT / name]
     if others and others[0] in PARTS and (ROOT / "crates" / first).is_dir():
@@ -172,7 +182,7 @@ def promises_problems(pages):
     """What is promised and no record, taken and not used, or left out of what is promised: as (right, wrong)."""
     code = code_of(PROMISES)
     files = {}  # where what is taken from another file stands: a name, or a module
-    for crate, inside, module, these in re.findall(rf"(?m)^use Rattle·(\w+)\.(specs\.\w+)(?: as ({WORD})|\.\{{(.*)\}})$", code):
+    for crate, inside, module, these in re.findall(rf"(?m)^use Rattle\.(\w+)\.(specs\.\w+)(?: as ({WORD})|\.\{{(.*)\}})$", code):
         files |= dict.fromkeys([module] if module else these.split(", "), ROOT / "crates" / crate / (inside.replace(".", "/") + ".antt"))
     fields = re.findall(rf"(?m)^  pub {WORD} : (.*)$", code)
     promised = {}  # each record by its whole name, after the arguments for which it holds
@@ -180,7 +190,7 @@ def promises_problems(pages):
         name = re.split("→ ", field)[-1].split()[0]
         promised[name] = files.get(name.split(".")[0], PROMISES)
     said = {f"{PROMISES.name}: {name} is no record": name.split(".")[-1] in records_of(path) for name, path in promised.items()}
-    used = words_of(" ".join(fields))
+    used = set(re.findall(r"[^\s(){},.:]+", " ".join(fields)))
     said |= {f"{PROMISES.name}: {name} is taken and not used": name in used for name in files}
     of_calls = {name for path in ROOT.glob("crates/histories/specs/*.antt") for name in records_of(path) if name.startswith("Calls")}
     said |= {f"{PROMISES.name}: {name} is not promised": name in promised for name in of_calls}
@@ -195,6 +205,7 @@ def main():
     known = names()
     passed = failed = 0
     pages = [ROOT / "README.md", *sorted((ROOT / "docs").rglob("*.md")), *sorted(ROOT.glob("*/README.md"))]
+    pages = [page for page in pages if not page.name.startswith("PORT")]
     for page in pages:
         right, wrong = page_problems(page, known)
         passed += right
