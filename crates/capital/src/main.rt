@@ -20,11 +20,11 @@ use loan_charge::charge::Exponentials;
 use loan_charge::credit::Rates;
 use marks::Marks;
 use sheet_file::{Numbers, Room};
-use std::alloc::AllocError;
 use std::env::{Env, FillError};
-use std::io::Read;
-use std::rt::{Files, Runtime};
-use std::{fs, io};
+use std::fs::{File, OpenOptions};
+use std::io;
+use std::io::{Read, Write};
+use std::rt::Files;
 
 // The reads are counted, since nothing says that the input ends: no run uses up so many.
 const MOST_READS: usize = 1099511627776;
@@ -37,6 +37,9 @@ const OUT: usize = 8704;
 
 // Room for the name of a file: the system knows no longer one.
 const NAME: usize = 4096;
+
+// Room for the system's words for an error.
+const WORDS: usize = 256;
 
 // A run after a read of so many bytes. `more` where the input may go on, `failed` where a read failed.
 #[derive(Clone, Copy)]
@@ -132,7 +135,7 @@ struct Output {
 
 // Reads a book to its end, under a sheet of factors, and leaves in the buffer what is to be printed of it, with the table of cells where it is
 // asked for.
-fn answer(rt: &impl Input, asked: bool, sheet: &[u64], out: &mut [u8]) -> Output
+fn answer(rt: &HostRuntime, asked: bool, sheet: &[u64], out: &mut [u8]) -> Output
     requires { report_size + cells_size ≤ length out.old }
     ensures { Answered asked sheet.now out.old result out.new }
 {
@@ -143,7 +146,7 @@ fn answer(rt: &impl Input, asked: bool, sheet: &[u64], out: &mut [u8]) -> Output
     let mut marks = marks::none();
     let mut buf = [0u8; READ];
     let turn = read_all(
-        &mut rt.reader(),
+        &mut rt.stdin(),
         &exps,
         sheet,
         &mut rates,
@@ -169,7 +172,7 @@ fn answer(rt: &impl Input, asked: bool, sheet: &[u64], out: &mut [u8]) -> Output
 }
 
 // The bytes of this argument, put at the start of the buffer: none where there is no such argument, or one with more bytes.
-fn argument(rt: &impl Env, at: usize, buf: &mut [u8]) -> usize
+fn argument(rt: &HostRuntime, at: usize, buf: &mut [u8]) -> usize
     ensures { result ≤ length buf.new }
 {
     match rt.arg(at, buf) {
@@ -179,7 +182,7 @@ fn argument(rt: &impl Env, at: usize, buf: &mut [u8]) -> usize
 }
 
 // How many arguments the program has, its name among them.
-fn count_arguments(rt: &impl Env) -> usize {
+fn count_arguments(rt: &HostRuntime) -> usize {
     let mut start = [0u8; 1];
     for i in 0..usize::MAX {
         if let Err(FillError::NotPresent) = rt.arg(i, &mut start) {
@@ -190,17 +193,21 @@ fn count_arguments(rt: &impl Env) -> usize {
 }
 
 // Opens the file that is named by this argument.
-fn open_argument<R: Env + Files>(rt: &R, file: usize) -> io::Result<R::File> {
+fn open_argument(rt: &HostRuntime, file: usize) -> io::Result<File> {
     let mut name = [0u8; NAME];
     let n = argument(rt, file, &mut name);
     match std::str::from_utf8(&name[0..n]) {
-        Ok(path) => fs::open(rt, path),
+        Ok(path) => {
+            let mut how = OpenOptions::new();
+            how.read(true);
+            rt.open_file(&how, path)
+        }
         Err(_) => Err(io::Error::other("its name is no text in UTF-8")),
     }
 }
 
 // The same; where it cannot be opened, it is said why, after these words.
-fn open<R: Runtime>(rt: &R, file: usize, what: &str) -> Option<R::File> {
+fn open(rt: &HostRuntime, file: usize, what: &str) -> Option<File> {
     match open_argument(rt, file) {
         Ok(file) => Some(file),
         Err(error) => {
@@ -211,22 +218,26 @@ fn open<R: Runtime>(rt: &R, file: usize, what: &str) -> Option<R::File> {
 }
 
 // Says what failed and why.
-fn tell(rt: &(impl Eprint + Alloc), what: &str, error: io::Error) {
-    match to_text(rt, error) {
-        Ok(text) => {
-            let why = reason(text.as_str());
-            let _ = eprintln!(rt; "{what}: {why}");
-        }
-        Err(_) => say(rt, what),
-    }
+fn tell(rt: &HostRuntime, what: &str, error: io::Error) {
+    let mut buf = [0u8; WORDS];
+    let n = put_error(error, &mut buf);
+    let why = reason(&buf[0..n]);
+    let _ = eprintln!(rt; "{what}: {why}");
 }
 
-fn to_text<R: Alloc>(rt: &R, error: io::Error) -> Result<String<R::A>, AllocError> {
-    format!(in rt.alloc(); "{error}")
+// Writes the error to the buffer's start, as far as there is room.
+fn put_error(error: io::Error, buf: &mut [u8]) -> usize
+    ensures { result ≤ length buf.new }
+{
+    let size = buf.len();
+    let mut room = &mut buf[..];
+    let _ = write!(room, "{error}");
+    size.saturating_sub(room.len())
 }
 
 // The system's words for an error, without its number, which std adds to them.
-fn reason(text: &str) -> &str {
+fn reason(error: &[u8]) -> &str {
+    let text = std::str::from_utf8(error).unwrap_or("");
     match text.split_once(" (os error ") {
         Some((words, _)) => words,
         None => text,
@@ -267,7 +278,7 @@ fn read_book(
 
 // Reads the book of the file that is named by this argument to its end. Of a file that cannot be opened nothing is read.
 fn read_file(
-    rt: &impl Runtime,
+    rt: &HostRuntime,
     file: usize,
     exps: &Exponentials,
     sheet: &[u64],
@@ -306,7 +317,7 @@ struct Step {
 
 // The book of one more file is joined to that of those before it, of which the tables are lent.
 fn join_next(
-    rt: &impl Runtime,
+    rt: &HostRuntime,
     total: Book,
     rates: &mut Rates,
     cells: &mut Cells,
@@ -382,7 +393,7 @@ fn join_next(
 
 // The books of files from this argument on are joined in turn to that of the first, of which the tables are lent.
 fn join_all(
-    rt: &impl Runtime,
+    rt: &HostRuntime,
     first: Book,
     rates: &mut Rates,
     cells: &mut Cells,
@@ -427,7 +438,7 @@ fn join_all(
 
 // Reads the books of the files from this argument on, joins them from the first on, and leaves in the buffer what is to be printed of them.
 fn answer_files(
-    rt: &impl Runtime,
+    rt: &HostRuntime,
     from: usize,
     arguments: usize,
     asked: bool,
@@ -479,7 +490,7 @@ fn answer_files(
 
 // What is asked for by the words, where the program has so many arguments: of standard input, or of the files that they name.
 fn answer_words(
-    rt: &impl Runtime,
+    rt: &HostRuntime,
     words: Words,
     arguments: usize,
     sheet: &[u64],
@@ -495,12 +506,12 @@ fn answer_words(
 }
 
 // Says it on standard error. Where that cannot be written either, there is nobody to tell.
-fn say(rt: &impl Eprint, sentence: &str) {
+fn say(rt: &HostRuntime, sentence: &str) {
     let _ = rt.eprintln(sentence);
 }
 
 // Prints it.
-fn print(rt: &impl Runtime, words: Words, arguments: usize, sheet: &[u64])
+fn print(rt: &HostRuntime, words: Words, arguments: usize, sheet: &[u64])
     requires { FilesNamed words arguments }
 {
     let mut out = [0u8; OUT];
@@ -550,7 +561,7 @@ fn read_whole(input: &mut impl Read, buf: &mut [u8]) -> Option<usize>
 
 // The numbers of a file of credit factors, that is named by this argument. `good` where it could be read to its end and is a list of numbers; if not,
 // it is said why.
-fn read_sheet(rt: &impl Runtime, file: usize, out: &mut Room) -> Numbers
+fn read_sheet(rt: &HostRuntime, file: usize, out: &mut Room) -> Numbers
     ensures read { SheetRead result out.new }
     ensures few { result.count ≤ length out.new }
 {
@@ -585,7 +596,7 @@ fn no_numbers() -> Numbers
 }
 
 // The same under the sheet of the file that is named by this argument.
-fn print_under(rt: &impl Runtime, words: Words, arguments: usize)
+fn print_under(rt: &HostRuntime, words: Words, arguments: usize)
     requires { FilesNamed words arguments }
 {
     let mut room = [0u64; sheet_file::MOST];
@@ -642,7 +653,7 @@ fn understood(words: Words, word: &[u8], more: bool) -> Words
 }
 
 // The next word is read, where the program has so many arguments. One of more than 16 bytes is none that is understood.
-fn read_word(rt: &impl Env, words: Words, arguments: usize) -> Words
+fn read_word(rt: &HostRuntime, words: Words, arguments: usize) -> Words
     requires { (words.next < 2 ^ 32) × FilesNamed words arguments }
     ensures { (result.next ≤ words.next + 2) × FilesNamed result arguments }
 {

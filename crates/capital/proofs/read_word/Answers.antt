@@ -3,4 +3,4 @@ use Rattle.capital.proofs.CommandWords.{keeps}
 use Rattle.capital.proofs.read_word.Goals as goal
 
 pub returns : goal.returns
-returns g c = rw c.understood.ensures (keeps _ _ _ c.requires.1)
+returns c = rw c.understood.ensures (keeps _ _ _ c.requires.1)
