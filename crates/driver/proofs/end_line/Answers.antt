@@ -22,8 +22,7 @@ returns-then-number-eq1 c =
     let answer = ended-opened a.p a.sheet.now a.rates.now a.cells.now a.index.now a.marks.now a.line.now c.requires.0 o.result
     c.answered.result
     o.new.rates o.new.cells o.new.index o.new.marks
-    c.if-p-ne0.false
-    c.if-number-eq1.true o.ensures.equation o.ensures.rates o.ensures.cells
+    c.if-p-ne0.false c.if-number-eq1.true o.ensures.equation o.ensures.rates o.ensures.cells
     o.ensures.index o.ensures.marks c.answered.ensures in
     record {
       equation = answer.0;
@@ -38,8 +37,7 @@ returns c =
     let answer = ended-fed a.p a.sheet.now a.rates.now a.cells.now a.index.now a.marks.now a.line.now c.requires.0 o.result
     c.answered-2.result
     o.new.cells o.new.index o.new.marks
-    c.if-p-ne0.false
-    c.if-number-eq1.false o.ensures.equation o.ensures.cells
+    c.if-p-ne0.false c.if-number-eq1.false o.ensures.equation o.ensures.cells
     o.ensures.index o.ensures.marks c.answered-2.ensures in
     record {
       equation = answer.0;

@@ -27,7 +27,7 @@ bounds-out-at t c =
 
 pub overflow_add-result : goal.overflow_add-result
 overflow_add-result t c =
-    let room = more_room c.args.n _ c.if-n-lt10.false c.requires in
+    let space = more_room c.args.n _ c.if-n-lt10.false c.requires in
     omega arith
 
 pub returns : goal.returns
