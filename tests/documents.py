@@ -6,8 +6,7 @@ is checked:
 
 - a file: `crates/..`, `tests/..` and so on, or CRATE/must-fail/LABEL. NAME stands for any crate.
 - a name: a word, or several joined by `.` or `::`, as `Closes.answers` or `figures::add`. Each part must be a name in crates/ (source,
-  definitions or proofs, comments left out), in a script or a book of this repository, or one of KNOWN below; or it tells one of several of
-  such a name by its number, as `returns-2`, a goal that is written out only where it needs an answer.
+  definitions or proofs, comments left out), in a script or a book of this repository, or one of KNOWN below.
 - a name in a file: of "`a`, `b` in `crates/..`" and of "`crates/..`: `a`, `b`" both a and b must stand in that file.
 - README.md names each crate of crates.txt, and in its picture of the layers a crate stands above all that it is built on.
 - docs/PROOFS.md, "A reading order": each file's number of lines, each step's sum and the sum of all; the lines of code and of proofs.
@@ -108,7 +107,7 @@ def page_problems(page, known):
             right += 1
         else:
             for part in parts(name):
-                count(part in known or re.sub(r"-[0-9]+$", "", part) in known, f"no {part}, as in `{name}`")
+                count(part in known, f"no {part}, as in `{name}`")
     file = r"`(crates/[A-Za-z0-9_./-]+\.(?:rt|antt))`"
     said = [(name, these) for these, name in re.findall(rf"({GROUP}) (?:in|of) {file}", text)] + re.findall(rf"{file}: ({GROUP})", text)
     for name, these in said:
