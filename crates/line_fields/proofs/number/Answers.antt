@@ -1,11 +1,13 @@
 use mathlib.Core.Path.{◌≡◌, ◌∙◌, ap, sym}
-use mathlib.Core.Bool.{true}
+use mathlib.Core.Bool.{true, false, ◌&&◌}
+use mathlib.Core.List.{List}
+use lib.Dec.{eqb, ltb}
 use Rattle.line_forms.specs.Bytes.{all_within}
 use native.Mathlib.Omega.{arith}
-use Prim.Native.Nat.{◌+◌}
-use lib.ListN.{length, drop}
+use Prim.Native.Nat.{ℕ, ◌+◌, ◌<◌, ◌≤◌}
+use lib.ListN.{length, drop, get_or}
 use Rattle.line_forms.specs.Numerals.{value_from}
-use Rattle.line_forms.specs.Parsing.{number_at, after_number}
+use Rattle.line_forms.specs.Parsing.{digits_at, number_at, after_number}
 use Rattle.line_forms.proofs.Numerals.{count-some, none-count, none-zero, numeral-of}
 use Rattle.line_forms.proofs.Positions.{number-found, number-missing}
 use Rattle.line_forms.proofs.Bytes.{run_fits, run-within}
@@ -13,6 +15,15 @@ use Rattle.line_fields.proofs.Numbers.{digits-written, digits_value}
 use Rattle.line_fields.proofs.number.Goals as goal
 
 -- `number` meets its contract.
+
+-- what the digits say
+found : (line digits : List ℕ) (at : ℕ) → digits ≡ digits_at line at → (0 < length digits) × (length digits ≤ 14) →
+    (eqb (get_or digits 0 0) 48 && ltb 1 (length digits)) ≡ false →
+    (value_from 0 digits ≡ number_at line at) × (at + length digits ≡ after_number line at)
+found line digits at e k z =
+    let t : all_within 48 57 digits ≡ true = rw e (run-within 48 57 (drop at line)) in
+    let f = number-found line at (rw (← e) (numeral-of digits k.0 k.1 z t)) in
+    (rw e f.0, rw e f.1)
 
 pub returns-then-n : goal.returns-then-n
 returns-then-n c =
@@ -41,12 +52,8 @@ overflow_add-result c =
 pub returns-then-n-le3 : goal.returns-then-n-le3
 returns-then-n-le3 c =
     let a = c.args in
-    let k = count-some (length a.digits.now) c.if-n.false in
-    let t : all_within 48 57 a.digits.now ≡ true = rw c.requires (run-within 48 57 (drop a.at a.line.now)) in
-    let f = number-found a.line.now a.at (rw (← c.requires) (numeral-of a.digits.now k.0 k.1 (sym c.zero_first.ensures ∙ c.if-zero_first.false) t)) in
-    let value : value_from 0 a.digits.now ≡ number_at a.line.now a.at = rw c.requires f.0 in
-    let after : a.at + length a.digits.now ≡ after_number a.line.now a.at = rw c.requires f.1 in
-    (c.few_value.ensures ∙ value, after)
+    let f = found a.line.now a.digits.now a.at c.requires (count-some (length a.digits.now) c.if-n.false) (sym c.zero_first.ensures ∙ c.if-zero_first.false) in
+    (c.few_value.ensures ∙ f.0, f.1)
 
 pub number_of-requires : goal.number_of-requires
 number_of-requires c =
@@ -61,9 +68,5 @@ overflow_add-result-2 c =
 pub returns : goal.returns
 returns c =
     let a = c.args in
-    let k = count-some (length a.digits.now) c.if-n.false in
-    let t : all_within 48 57 a.digits.now ≡ true = rw c.requires (run-within 48 57 (drop a.at a.line.now)) in
-    let f = number-found a.line.now a.at (rw (← c.requires) (numeral-of a.digits.now k.0 k.1 (sym c.zero_first.ensures ∙ c.if-zero_first.false) t)) in
-    let value : value_from 0 a.digits.now ≡ number_at a.line.now a.at = rw c.requires f.0 in
-    let after : a.at + length a.digits.now ≡ after_number a.line.now a.at = rw c.requires f.1 in
-    (c.number_of.ensures ∙ digits_value 0 _ ∙ value, after)
+    let f = found a.line.now a.digits.now a.at c.requires (count-some (length a.digits.now) c.if-n.false) (sym c.zero_first.ensures ∙ c.if-zero_first.false) in
+    (c.number_of.ensures ∙ digits_value 0 _ ∙ f.0, f.1)
