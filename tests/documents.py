@@ -1,8 +1,8 @@
 #!/usr/bin/env python3
 """Checks what the pages name in backquotes: that the files are there, that the names are, and that each stands in the file it is said to be in.
 
-Pages are README.md, all of docs/, and the README.md of other folders; but for docs/PORT*.md, which have names of before beside those of today. What
-is checked:
+Pages are README.md, all of docs/, and the README.md of other folders; but for docs/PORT*.md and docs/DESIGN-PASS.md, which have names of before
+beside those of today. What is checked:
 
 - a file: `crates/..`, `tests/..` and so on, or CRATE/must-fail/LABEL. NAME stands for any crate.
 - a name: a word, or several joined by `.` or `::`, as `Closes.answers` or `figures::add`. Each part must be a name in crates/ (source,
@@ -205,7 +205,7 @@ def main():
     known = names()
     passed = failed = 0
     pages = [ROOT / "README.md", *sorted((ROOT / "docs").rglob("*.md")), *sorted(ROOT.glob("*/README.md"))]
-    pages = [page for page in pages if not page.name.startswith("PORT")]
+    pages = [page for page in pages if not page.name.startswith(("PORT", "DESIGN-PASS"))]
     for page in pages:
         right, wrong = page_problems(page, known)
         passed += right

@@ -1,34 +1,28 @@
 // Opening, feeding and closing a book (document 01, "A book, line by line").
 #![tactic(auto)]
 
-ghost use Rattle.std.specs.Prelude.{◌≡◌, ◌≤◌, eqb, length};
+ghost use Rattle.std.specs.Prelude.{◌≡◌, ◌≤◌, IfOk, eqb, length, set};
 ghost use Rattle.exact.specs.Choice.{pick};
-ghost use Rattle.loan_charge.specs.Tables.{exponentials};
-ghost use Rattle.loan_charge.specs.CreditFactor.{built_in_sheet, built_in_rates_lem};
-ghost use Rattle.line_forms.specs.declared.HeaderLine.TheVariants.{Header as HeaderRead};
+ghost use Rattle.loan_charge.specs.CreditFactor.{built_in_sheet};
 ghost use Rattle.line_forms.specs.declared.Content.TheVariants.{Loan as loan, Index as index_content};
 ghost use Rattle.line_forms.specs.Claims.{line_content};
 ghost use Rattle.figures.specs.Sums.{Bounded, InLimits, plus, no_sums};
 ghost use Rattle.report.specs.Line.{Written};
 ghost use Rattle.book_model.specs.Accepted.{loan_refusal, other_refusal, index_refusal};
-ghost use Rattle.book_model.specs.Calls.{state_at, basis_at, counts_of, opened_of, fed_of, opening_for, opening, table_with, feeding_line, feeding};
+ghost use Rattle.book_model.specs.Calls.{told, answered, closed_by, basis_in, counts_of, empty_state, opening, book_with, table_with, feeding_line, feeding};
 ghost use Rattle.book_model.specs.Calls.{SoundBook, Sound};
 ghost use Rattle.book_model.specs.Calls.{report_size, report_of, closing, closed, closing_cells, closed_cells};
 ghost use Rattle.book_model.specs.HouseIndex.{adjustment_of, values_at, index_with};
 ghost use Rattle.book_model.specs.LineKinds.{another, kind_counts};
-ghost use Rattle.book_model.specs.Marks.{no_marks};
 ghost use Rattle.book_model.specs.Ranges.{Ranged, LoanRanges, IndexRanges};
 ghost use Rattle.book_model.specs.Share.{loan_share};
-ghost use Rattle.book_model.specs.Steps.{opened_refused, answer_with};
+ghost use Rattle.book_model.specs.Terms.{refused_terms};
 
-use book_model::{Book, Closed, Fed, Opened};
+use book_model::{Book, OpenBook};
 use cell_report::{Cell, Cells};
 use figures::Sums;
-use house_index::Index;
-use line_forms::{Header, HeaderLine, IndexValue, Line, Loan};
+use line_forms::{IndexValue, Line, Loan, Refusal};
 use loan_charge::charge::Exponentials;
-use loan_charge::credit::Rates;
-use marks::Marks;
 
 // A report buffer has at least so many bytes.
 const REPORT_SIZE: usize = 512;
@@ -36,306 +30,186 @@ const REPORT_SIZE: usize = 512;
 // A buffer for the table of cells has at least so many.
 const CELLS_SIZE: usize = 8192;
 
-// The value of a refused opening: an all-zero header, under the regulator's table.
-fn refused(refusal: u64, rates: &mut Rates) -> Opened
-    ensures equation { result ≡ opened_refused refusal }
-    ensures rates { rates.new ≡ built_in_rates_lem }
+// What stands where an opening is refused, and before any: an all-zero header, under the regulator's table, with no line taken.
+pub fn unopened() -> OpenBook
+    ensures { result ≡ empty_state refused_terms }
 {
-    *rates = sheet::built_in_rates();
-    Opened {
-        refusal,
+    OpenBook {
         book: book_model::refused(),
+        rates: sheet::built_in_rates(),
+        cells: [0; cell_report::PLACES],
+        index: [0; house_index::PLACES],
+        marks: marks::none(),
     }
 }
 
-// A header that was read opens a book where the sheet keeps its rules, and is refused with 10 where not.
-fn open_under(header: Header, sheet: &[u64], rates: &mut Rates) -> Opened
-    ensures equation { result ≡ opened_of (opening_for sheet.now (HeaderRead header)) }
-    ensures rates { rates.new ≡ (opening_for sheet.now (HeaderRead header)).state.rates }
+// A book becomes that.
+pub fn reset(open_book: &mut OpenBook)
+    ensures { open_book.new ≡ empty_state refused_terms }
 {
-    if sheet::passes(sheet) {
-        sheet::fill(rates, sheet);
-        return Opened {
-            refusal: 0,
-            book: book_model::empty(header),
-        };
-    }
-    refused(10, rates)
+    *open_book = unopened();
 }
 
-// A header line and a lent sheet of factors open a book (02, L3). The tables of rates, cells, index values and marks are lent with it from here
-// on: the rates become the sheet's, or the regulator's where the opening is refused, and the other three are cleared.
-pub fn open_sheet(
-    line: &[u8],
-    sheet: &[u64],
-    rates: &mut Rates,
-    cells: &mut Cells,
-    index: &mut Index,
-    marks: &mut Marks,
-) -> Opened
-    ensures equation { result ≡ opened_of (opening sheet.now line.now) }
-    ensures rates { rates.new ≡ (opening sheet.now line.now).state.rates }
-    ensures cells { cells.new ≡ (opening sheet.now line.now).state.cells }
-    ensures index { index.new ≡ (opening sheet.now line.now).state.index }
-    ensures marks { marks.new ≡ (opening sheet.now line.now).state.marks }
-    ensures sound { Sound (state_at result.book rates.new cells.new index.new marks.new) }
+// A header line and a sheet of factors open a book (02, L3), whatever the one lent was: where the sheet breaks a rule, 10 comes back after
+// the header's own refusals.
+pub fn open_sheet(open_book: &mut OpenBook, line: &[u8], sheet: &[u64]) -> Result<(), Refusal>
+    ensures equation { answered result open_book.new ≡ opening sheet.now line.now }
+    ensures sound { Sound open_book.new }
 {
-    cells::clear(cells);
-    house_index::clear(index);
-    marks::clear(marks);
-    let read = line_reading::read_header(line);
-    match read {
-        HeaderLine::Header(header) => open_under(header, sheet, rates),
-        HeaderLine::Refusal(refusal) => refused(refusal, rates),
+    reset(open_book);
+    let header = line_reading::read_header(line)?;
+    if !sheet::passes(sheet) {
+        return Err(Refusal::BadSheet);
     }
+    open_book.book = book_model::empty(header);
+    sheet::fill(&mut open_book.rates, sheet);
+    Ok(())
 }
 
 // A header line opens a book under the regulator's table.
-pub fn open(
-    line: &[u8],
-    rates: &mut Rates,
-    cells: &mut Cells,
-    index: &mut Index,
-    marks: &mut Marks,
-) -> Opened
-    ensures equation { result ≡ opened_of (opening built_in_sheet line.now) }
-    ensures rates { rates.new ≡ (opening built_in_sheet line.now).state.rates }
-    ensures cells { cells.new ≡ (opening built_in_sheet line.now).state.cells }
-    ensures index { index.new ≡ (opening built_in_sheet line.now).state.index }
-    ensures marks { marks.new ≡ (opening built_in_sheet line.now).state.marks }
-    ensures sound { Sound (state_at result.book rates.new cells.new index.new marks.new) }
+pub fn open(open_book: &mut OpenBook, line: &[u8]) -> Result<(), Refusal>
+    ensures equation { answered result open_book.new ≡ opening built_in_sheet line.now }
+    ensures sound { Sound open_book.new }
 {
     let sheet = sheet::built_in();
-    open_sheet(line, &sheet, rates, cells, index, marks)
+    open_sheet(open_book, line, &sheet)
 }
 
-// A book with a line's share added.
-fn with_share(b: Book, share: Sums) -> Fed
-    requires { Bounded b.sums × Bounded share × InLimits (plus b.sums share) }
-    ensures { result ≡ answer_with 0 b share 0 }
+// A line's share is added.
+fn add_share(b: &mut Book, share: Sums)
+    requires { Bounded b.old.sums × Bounded share × InLimits (plus b.old.sums share) }
+    ensures { b.new ≡ book_with 0 b.old share 0 }
 {
-    let header = b.header;
-    let before = b.sums;
-    let after = figures::add(before, share);
-    let book = Book {
-        header,
-        sums: after,
-        indexed: b.indexed,
-    };
-    Fed { refusal: 0, book }
+    b.sums = figures::add(b.sums, share);
 }
 
 // A line that is neither a loan nor an index value.
-fn add_other(b: Book, share: Sums) -> Fed
-    requires { SoundBook b × Bounded share × (share.counts ≡ kind_counts another) }
-    ensures { result ≡ answer_with (other_refusal (counts_of b)) b share 0 }
+fn add_other(b: &mut Book, share: Sums) -> Result<(), Refusal>
+    requires { SoundBook b.old × Bounded share × (share.counts ≡ kind_counts another) }
+    ensures refusal { told result ≡ other_refusal (counts_of b.old) }
+    ensures book { b.new ≡ book_with (other_refusal (counts_of b.old)) b.old share 0 }
 {
     if limits::is_full(b) {
-        return Fed {
-            refusal: 8,
-            book: b,
-        };
+        return Err(Refusal::LinesFull);
     }
-    with_share(b, share)
+    add_share(b, share);
+    Ok(())
 }
 
 // An index value.
-fn add_index(b: Book, index: &mut Index, i: IndexValue) -> Fed
-    requires { SoundBook b × IndexRanges i }
-    ensures equation { result ≡ answer_with (index_refusal (counts_of b) (values_at index.old i.area i.month)) b no_sums 1 }
-    ensures index { index.new ≡
-        pick (eqb (index_refusal (counts_of b) (values_at index.old i.area i.month)) 0) (index_with (index_content i) index.old)
-        index.old }
+fn add_index(open_book: &mut OpenBook, i: IndexValue) -> Result<(), Refusal>
+    requires { SoundBook open_book.old.book × IndexRanges i }
+    ensures refusal { told result ≡ index_refusal (counts_of open_book.old.book) (values_at open_book.old.index i.area i.month) }
+    ensures state { open_book.new ≡ record open_book.old {
+      book = book_with (told result) open_book.old.book no_sums 1;
+      index = pick (eqb (told result) 0) (index_with (index_content i) open_book.old.index) open_book.old.index;
+    } }
 {
-    if limits::is_full(b) {
-        return Fed {
-            refusal: 8,
-            book: b,
-        };
+    if limits::is_full(&open_book.book) {
+        return Err(Refusal::LinesFull);
     }
-    if house_index::before(index, i) != 0 {
-        return Fed {
-            refusal: 11,
-            book: b,
-        };
+    if house_index::before(&open_book.index, i) != 0 {
+        return Err(Refusal::ValueSet);
     }
-    house_index::set(index, i);
-    let header = b.header;
-    let sums = b.sums;
-    let book = Book {
-        header,
-        sums,
-        indexed: b.indexed + 1,
-    };
-    Fed { refusal: 0, book }
+    house_index::set(&mut open_book.index, i);
+    open_book.book.indexed += 1;
+    Ok(())
 }
 
-// Marks do not concern it: it asks for a sound book with none.
-fn add_loan(
-    b: Book,
-    exps: &Exponentials,
-    rates: &Rates,
-    cells: &mut Cells,
-    index: &Index,
-    l: Loan,
-) -> Fed
-    requires { Sound (state_at b rates.now cells.old index.now no_marks) × LoanRanges l × (exps.now ≡ exponentials) }
-    ensures equation { result ≡
-        answer_with (loan_refusal b.header (counts_of b) (adjustment_of (values_at index.now) l) l.score) b
-        (loan_share (basis_at b.header rates.now index.now) l) 0 }
-    ensures cells { cells.new ≡
-        table_with (loan_refusal b.header (counts_of b) (adjustment_of (values_at index.now) l) l.score)
-        (basis_at b.header rates.now index.now) (loan l) cells.old }
+fn add_loan(open_book: &mut OpenBook, exps: &Exponentials, l: Loan) -> Result<(), Refusal>
+    requires { Sound open_book.old × LoanRanges l }
+    ensures refusal { told result ≡
+        loan_refusal open_book.old.book.header (counts_of open_book.old.book) (adjustment_of (values_at open_book.old.index) l) l.score }
+    ensures state { open_book.new ≡ record open_book.old {
+      book = book_with (told result) open_book.old.book (loan_share (basis_in open_book.old) l) 0;
+      cells = table_with (told result) (basis_in open_book.old) (loan l) open_book.old.cells;
+    } }
 {
-    let header = b.header;
-    let sums = b.sums;
-    let score = l.score;
-    if limits::loan_beyond(header, sums.counts, score) {
-        return Fed {
-            refusal: 5,
-            book: b,
-        };
+    let header = open_book.book.header;
+    if limits::loan_beyond(header, open_book.book.sums.counts, l.score) {
+        return Err(Refusal::LoanBeyond);
     }
-    let a = house_index::adjustment(l, index);
+    let a = house_index::adjustment(l, &open_book.index);
     if house_index::is_lacking(a) {
-        return Fed {
-            refusal: 12,
-            book: b,
-        };
+        return Err(Refusal::ValueLacking);
     }
     let place = cells::place_of(l, a);
-    let share = shares::loan(header, l, a, exps, rates);
-    let charge = share.total;
+    let share = shares::loan(header, l, a, exps, &open_book.rates);
     let cell = Cell {
         count: 1,
         balance: l.balance,
-        charge,
+        charge: share.total,
     };
-    cells::add_cell(cells, place, cell);
-    with_share(b, share)
+    cells::add_cell(&mut open_book.cells, place, cell);
+    add_share(&mut open_book.book, share);
+    Ok(())
 }
 
 // A line that was read.
-fn feed_line(
-    b: Book,
-    exps: &Exponentials,
-    rates: &Rates,
-    cells: &mut Cells,
-    index: &mut Index,
-    marks: &mut Marks,
-    line: Line,
-) -> Fed
-    requires { Sound (state_at b rates.now cells.old index.old marks.old) × Ranged (line_content line) × (exps.now ≡ exponentials) }
-    ensures equation { result ≡ fed_of (feeding_line (state_at b rates.now cells.old index.old marks.old) line) }
-    ensures cells { cells.new ≡ (feeding_line (state_at b rates.now cells.old index.old marks.old) line).state.cells }
-    ensures index { index.new ≡ (feeding_line (state_at b rates.now cells.old index.old marks.old) line).state.index }
-    ensures marks { marks.new ≡ (feeding_line (state_at b rates.now cells.old index.old marks.old) line).state.marks }
+fn feed_line(open_book: &mut OpenBook, exps: &Exponentials, line: Line) -> Result<(), Refusal>
+    requires { Sound open_book.old × Ranged (line_content line) }
+    ensures { answered result open_book.new ≡ feeding_line open_book.old line }
 {
+    let b = &mut open_book.book;
     match line {
-        Line::Loan(l) => add_loan(b, exps, rates, cells, index, l),
-        Line::Policy(p) => {
-            let class = p.class;
-            add_other(b, shares::policy(class, p.premium, p.term, p.completed))
-        }
+        Line::Loan(l) => add_loan(open_book, exps, l),
+        Line::Policy(p) => add_other(b, shares::policy(p)),
         Line::Derivative(d) => add_other(b, shares::derivative(d)),
         Line::Asset(a) => add_other(b, shares::asset(a)),
-        Line::Amount(a) => {
-            let item = a.item;
-            let x = a.amount;
-            add_other(b, shares::amount(item, x))
-        }
-        Line::Index(i) => add_index(b, index, i),
-        Line::Mark(m) => marks::feed(b, cells, index, marks, m),
-        Line::Refusal(refusal) => Fed { refusal, book: b },
+        Line::Amount(a) => add_other(b, shares::amount(a)),
+        Line::Index(i) => add_index(open_book, i),
+        Line::Mark(m) => marks::feed(open_book, m),
+        Line::Refusal(refusal) => Err(refusal),
     }
 }
 
 // A line is fed to a book, with the constant table lent too: for loops, since a constant array would be stored whole at every use.
-pub fn feed_with(
-    b: Book,
-    exps: &Exponentials,
-    rates: &Rates,
-    cells: &mut Cells,
-    index: &mut Index,
-    marks: &mut Marks,
-    line: &[u8],
-) -> Fed
-    requires { Sound (state_at b rates.now cells.old index.old marks.old) × (exps.now ≡ exponentials) }
-    ensures equation { result ≡ fed_of (feeding (state_at b rates.now cells.old index.old marks.old)
-        line.now) }
-    ensures cells { cells.new ≡ (feeding (state_at b rates.now cells.old index.old marks.old)
-        line.now).state.cells }
-    ensures index { index.new ≡ (feeding (state_at b rates.now cells.old index.old marks.old)
-        line.now).state.index }
-    ensures marks { marks.new ≡ (feeding (state_at b rates.now cells.old index.old marks.old)
-        line.now).state.marks }
-    ensures sound { Sound (state_at result.book rates.now cells.new index.new marks.new) }
+pub fn feed_with(open_book: &mut OpenBook, exps: &Exponentials, line: &[u8]) -> Result<(), Refusal>
+    requires { Sound open_book.old }
+    ensures equation { answered result open_book.new ≡ feeding open_book.old line.now }
+    ensures sound { Sound open_book.new }
 {
     let read = line_reading::read_line(line);
     let Line::Refusal(refusal) = read else {
-        return feed_line(b, exps, rates, cells, index, marks, read);
+        return feed_line(open_book, exps, read);
     };
-    Fed { refusal, book: b }
+    Err(refusal)
 }
 
-// A line is fed to a book, with the tables that its opening and the feedings since left.
-pub fn feed(
-    b: Book,
-    rates: &Rates,
-    cells: &mut Cells,
-    index: &mut Index,
-    marks: &mut Marks,
-    line: &[u8],
-) -> Fed
-    requires { Sound (state_at b rates.now cells.old index.old marks.old) }
-    ensures equation { result ≡ fed_of (feeding (state_at b rates.now cells.old index.old marks.old)
-        line.now) }
-    ensures cells { cells.new ≡ (feeding (state_at b rates.now cells.old index.old marks.old)
-        line.now).state.cells }
-    ensures index { index.new ≡ (feeding (state_at b rates.now cells.old index.old marks.old)
-        line.now).state.index }
-    ensures marks { marks.new ≡ (feeding (state_at b rates.now cells.old index.old marks.old)
-        line.now).state.marks }
-    ensures sound { Sound (state_at result.book rates.now cells.new index.new marks.new) }
+// A line is fed to a book as its opening and the feedings since left it.
+pub fn feed(open_book: &mut OpenBook, line: &[u8]) -> Result<(), Refusal>
+    requires { Sound open_book.old }
+    ensures equation { answered result open_book.new ≡ feeding open_book.old line.now }
+    ensures sound { Sound open_book.new }
 {
     let exps = loan_charge::charge::table();
-    feed_with(b, &exps, rates, cells, index, marks, line)
+    feed_with(open_book, &exps, line)
 }
 
 // The report of a book.
-fn put_report(b: Book, out: &mut [u8]) -> usize
-    requires { SoundBook b × (report_size ≤ length out.old) }
-    ensures { Written out.old (report_of b) result out.new }
+fn put_report(b: &Book, out: &mut [u8]) -> usize
+    requires { SoundBook b.now × (report_size ≤ length out.old) }
+    ensures { Written out.old (report_of b.now) result out.new }
 {
-    let header = b.header;
-    let sums = b.sums;
-    let figures = figures::compute(header.held, sums);
+    let figures = figures::compute(b.header.held, b.sums);
     book_report::put_report(out, figures)
 }
 
-// A book is closed: its report is written to the lent buffer.
-pub fn close(b: Book, out: &mut [u8]) -> Closed
-    requires { SoundBook b }
-    ensures equation { result ≡ closing b (length out.old) }
-    ensures bytes { out.new ≡ closed b out.old }
+// A book is closed: its report is written to the lent buffer, and its length told.
+pub fn close(b: &Book, out: &mut [u8]) -> Result<usize, Refusal>
+    requires { SoundBook b.now }
+    ensures equation { closed_by result ≡ closing b.now (length out.old) }
+    ensures bytes { out.new ≡ closed b.now out.old }
 {
-    let refusal = limits::closing_refusal(b, REPORT_SIZE, out.len());
-    if refusal != 0 {
-        return Closed { refusal, length: 0 };
-    }
-    let length = put_report(b, out);
-    Closed { refusal: 0, length }
+    limits::may_close(b, REPORT_SIZE, out.len())?;
+    Ok(put_report(b, out))
 }
 
 // A book's table of cells is written to the lent buffer: the second closing.
-pub fn close_cells(b: Book, cells: &Cells, out: &mut [u8]) -> Closed
-    ensures equation { result ≡ closing_cells b cells.now (length out.old) }
-    ensures bytes { out.new ≡ closed_cells b cells.now out.old }
+pub fn close_cells(b: &Book, cells: &Cells, out: &mut [u8]) -> Result<usize, Refusal>
+    ensures equation { closed_by result ≡ closing_cells b.now cells.now (length out.old) }
+    ensures bytes { out.new ≡ closed_cells b.now cells.now out.old }
 {
-    let refusal = limits::closing_refusal(b, CELLS_SIZE, out.len());
-    if refusal != 0 {
-        return Closed { refusal, length: 0 };
-    }
-    let length = cell_report::put_cells(out, cells);
-    Closed { refusal: 0, length }
+    limits::may_close(b, CELLS_SIZE, out.len())?;
+    Ok(cell_report::put_cells(out, cells))
 }

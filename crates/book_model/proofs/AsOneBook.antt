@@ -15,7 +15,7 @@ use Rattle.loan_charge.specs.CreditFactor.{rates_of_lem}
 use Rattle.sheet.specs.Sheet.{SheetRules, sheet_passes}
 use Rattle.sheet.proofs.Loading.{loading}
 use Rattle.line_forms.specs.declared.Header.{Header}
-use Rattle.line_forms.specs.declared.HeaderLine.TheVariants.{Header as HeaderRead}
+use Rattle.std.specs.Prelude.{Ok}
 use Rattle.line_forms.specs.declared.IndexValue.{IndexValue}
 use Rattle.line_forms.specs.declared.Loan.{Loan}
 use Rattle.line_forms.specs.declared.Content.{Content}
@@ -83,7 +83,7 @@ alike-has v w c a h = go (held c) a h
     go (no_loan n) a h = n Bool (λ l. lacking (adjustment_of w l)) false
 
 -- the terms of a header that is read, under a sheet that passes
-terms-read : (sheet : List ℕ) (j : Header) → sheet_passes sheet ≡ true → terms_for sheet (HeaderRead j) ≡ under_sheet j sheet
+terms-read : (sheet : List ℕ) (j : Header) → sheet_passes sheet ≡ true → terms_for sheet (Ok j) ≡ under_sheet j sheet
 unfolding terms_for
 terms-read sheet j e = rw e refl
 
@@ -279,7 +279,7 @@ header-in-range j a b = rw (
 ) refl
 
 -- A book opened under the sheet of another, with the line of a header that is read back
-module _ (h : History) (x : IsOpened h) (j : Header) (e : header_of (bytes_of (header j)) ≡ HeaderRead j) where
+module _ (h : History) (x : IsOpened h) (j : Header) (e : header_of (bytes_of (header j)) ≡ Ok j) where
   pub terms-with : terms_of (opened (sheet_of h) (bytes_of (header j))) ≡ under j (terms_of h).rates
   unfolding terms_of
   terms-with =
@@ -300,7 +300,7 @@ module _ (h k : History) (x : IsOpened h) (y : IsOpened k)
   abbrev j : Header
   j = added_header_lem (terms_of h).header (terms_of k).header
 
-  header_read : header_of (added_header_line h k) ≡ HeaderRead j
+  header_read : header_of (added_header_line h k) ≡ Ok j
   header_read =
       let a : SoundBook (book_of (terms_of h) (lines_taken h)) = (taken-sound h).book in
       let b : SoundBook (book_of (terms_of k) (lines_taken k)) = (taken-sound k).book in

@@ -13,8 +13,7 @@ use Rattle.line_forms.specs.declared.Header.{Header}
 use Rattle.figures.specs.declared.Counts.{Counts}
 use Rattle.report.specs.Line.{onto, Written}
 use Rattle.book_model.specs.declared.Book.{Book}
-use Rattle.book_model.specs.declared.Closed.{Closed}
-use Rattle.book_model.specs.Calls.{lacks_lines, closing_refusal_lem, closing_with, closed_with}
+use Rattle.book_model.specs.Calls.{Closed, lacks_lines, closing_refusal_lem, closing_with, closed_with}
 use Rattle.book_model.specs.Demand2.{CountsShort, CountsReached}
 use Rattle.book_model.proofs.Tests.{closing-test}
 

@@ -13,12 +13,14 @@ use Rattle.figures.specs.declared.Counts.{Counts}
 use Rattle.line_forms.specs.declared.IndexValue.{IndexValue}
 use Rattle.line_forms.specs.declared.Loan.{Loan}
 use Rattle.line_forms.specs.declared.MarkLine.{MarkLine}
-use Rattle.line_forms.specs.declared.HeaderLine.{HeaderLine}
-use Rattle.line_forms.specs.declared.HeaderLine.TheVariants.{Refusal as HeaderRefusal}
+use Rattle.line_forms.specs.declared.Header.{Header}
+use Rattle.line_forms.specs.declared.refusal.Refusal.{Refusal as Reason}
+use Rattle.std.specs.Prelude.{Result, Err}
 use Rattle.line_forms.specs.declared.Line.{Line}
 use Rattle.line_forms.specs.declared.Line.TheVariants.{Loan as LoanLine, Policy as PolicyLine, Derivative as DerivativeLine, Asset as AssetLine}
 use Rattle.line_forms.specs.declared.Line.TheVariants.{Amount as AmountLine, Index as IndexLine, Mark as MarkRead, Refusal}
 use Rattle.line_forms.specs.declared.Content.{Content}
+use Rattle.line_forms.specs.Refusals.{number_of}
 use Rattle.line_forms.specs.Claims.{line_content}
 use Rattle.line_forms.specs.Readings.{line_of, header_of}
 use Rattle.line_forms.proofs.HeaderLaws.{header-numbers}
@@ -50,11 +52,11 @@ first e = Memᴰ.head e
 later : {n x : ℕ} {xs : List ℕ} → Memᴰ n xs → Memᴰ n (x ∷ xs)
 later m = Memᴰ.tail m
 
-opening-number : (sheet : List ℕ) (l : HeaderLine) → ((n : ℕ) → l ≡ HeaderRefusal n → (n ≡ 1) ⊎ (n ≡ 2) ⊎ (n ≡ 7) ⊎ (n ≡ 3) ⊎ (n ≡ 4)) →
+opening-number : (sheet : List ℕ) (l : Result Header Reason) → ((q : Reason) → l ≡ Err q → (number_of q ≡ 1) ⊎ (number_of q ≡ 2) ⊎ (number_of q ≡ 7) ⊎ (number_of q ≡ 3) ⊎ (number_of q ≡ 4)) →
     Memᴰ (opening_for sheet l).refusal (0 ∷ 1 ∷ 2 ∷ 7 ∷ 3 ∷ 4 ∷ 10 ∷ [])
 opening-number sheet l k = go (case_of sheet l) k
   where
-    go : {l : HeaderLine} → Case sheet l → ((n : ℕ) → l ≡ HeaderRefusal n → (n ≡ 1) ⊎ (n ≡ 2) ⊎ (n ≡ 7) ⊎ (n ≡ 3) ⊎ (n ≡ 4)) →
+    go : {l : Result Header Reason} → Case sheet l → ((q : Reason) → l ≡ Err q → (number_of q ≡ 1) ⊎ (number_of q ≡ 2) ⊎ (number_of q ≡ 7) ⊎ (number_of q ≡ 3) ⊎ (number_of q ≡ 4)) →
         Memᴰ (opening_for sheet l).refusal (0 ∷ 1 ∷ 2 ∷ 7 ∷ 3 ∷ 4 ∷ 10 ∷ [])
     go (book_opens h e) k = first (number (sheet-passes sheet h e))
     go (sheet_refused h e) k = later (later (later (later (later (later (first (number (sheet-fails sheet h e))))))))
@@ -123,7 +125,7 @@ mark-number g c k m = go m.back refl (k.named m.name) refl (leb most_marks k.cou
     go false p false q true r = simp (p, q, r) (found _ _ refl)
     go false p false q false r = simp (p, q, r) (found _ _ refl)
 
-feeding-number : (s : State) (l : Line) → ((n : ℕ) → l ≡ Refusal n → (n ≡ 1) ⊎ (n ≡ 2) ⊎ (n ≡ 7) ⊎ (n ≡ 3)) → Fed (refusal_in s l)
+feeding-number : (s : State) (l : Line) → ((q : Reason) → l ≡ Refusal q → (number_of q ≡ 1) ⊎ (number_of q ≡ 2) ⊎ (number_of q ≡ 7) ⊎ (number_of q ≡ 3)) → Fed (refusal_in s l)
 unfolding refusal_for content_kind
 feeding-number s (LoanLine l) k = loan-number (basis_in s) (counts_of s.book) (kept_in s.marks) l
 feeding-number s (PolicyLine p) k = other-number (basis_in s) (counts_of s.book) (kept_in s.marks)
@@ -139,10 +141,10 @@ closing-number true y = later (first refl)
 closing-number false true = later (later (first refl))
 closing-number false false = first refl
 
-refused_opening : (sheet : List ℕ) (l : HeaderLine) → ((opening_for sheet l).refusal ≡ 0 → ⊥) → (opening_for sheet l).state ≡ refused_state
+refused_opening : (sheet : List ℕ) (l : Result Header Reason) → ((opening_for sheet l).refusal ≡ 0 → ⊥) → (opening_for sheet l).state ≡ refused_state
 refused_opening sheet l n = go (case_of sheet l) n
   where
-    go : {l : HeaderLine} → Case sheet l → ((opening_for sheet l).refusal ≡ 0 → ⊥) → (opening_for sheet l).state ≡ refused_state
+    go : {l : Result Header Reason} → Case sheet l → ((opening_for sheet l).refusal ≡ 0 → ⊥) → (opening_for sheet l).state ≡ refused_state
     go (book_opens h e) n = absurd (n (number (sheet-passes sheet h e)))
     go (sheet_refused h e) n = ap (λ (x : Answer). x.state) (sheet-fails sheet h e)
     go (header_refused k) n = ap (λ (x : Answer). x.state) (header-fails sheet k)

@@ -22,8 +22,9 @@ use Rattle.line_forms.specs.declared.Content.TheVariants.{Amount as amount, Inde
 use Rattle.line_forms.specs.declared.Line.{Line}
 use Rattle.line_forms.specs.declared.Line.TheVariants.{Loan as LoanLine, Policy as PolicyLine, Derivative as DerivativeLine, Asset as AssetLine}
 use Rattle.line_forms.specs.declared.Line.TheVariants.{Amount as AmountLine, Index as IndexLine, Mark as MarkRead, Refusal}
-use Rattle.line_forms.specs.declared.HeaderLine.{HeaderLine}
-use Rattle.line_forms.specs.declared.HeaderLine.TheVariants.{Header as HeaderRead, Refusal as HeaderRefusal}
+use Rattle.line_forms.specs.declared.refusal.Refusal.{Refusal as Reason}
+use Rattle.std.specs.Prelude.{Result, Ok, Err}
+use Rattle.line_forms.specs.Refusals.{number_of}
 use Rattle.line_forms.specs.Readings.{line_of, header_of}
 use Rattle.line_forms.specs.Claims.{ShowsInRange, AfterHeader, line_with, line_refusal, header_refusal, LineReading, HeaderReading}
 use Rattle.line_forms.proofs.LineLaws.{line_reading, line_numbers, refused-line}
@@ -83,7 +84,7 @@ data Shown (s : List ℕ) : LineKind → Type 0 where
   index_shown : (i : IndexValue) → ShowsInRange s (index i) → Shown s (an_index i)
   mark_shown : (m : MarkLine) → ShowsInRange s (mark m) → Shown s (a_mark m)
   other_shown : (c : Content) → OtherForm c → index_line c ≡ 0 → ShowsInRange s c → Shown s another
-  refused_shown : (n : ℕ) → line_of s ≡ Refusal n → Shown s (refused n)
+  refused_shown : (q : Reason) → line_of s ≡ Refusal q → Shown s (refused (number_of q))
 
 module _ (s : List ℕ) where
   kind-shown : Shown s (kind_of (line_of s))
@@ -98,7 +99,7 @@ module _ (s : List ℕ) where
       go (AmountLine a) e = other_shown (amount a) tt refl (shows s (amount a) tt e)
       go (IndexLine i) e = index_shown i (shows s (index i) tt e)
       go (MarkRead m) e = mark_shown m (shows s (mark m) tt e)
-      go (Refusal n) e = refused_shown n e
+      go (Refusal q) e = refused_shown q e
 
   loan-kind : (l : Loan) → ShowsInRange s (loan l) → kind_of (line_of s) ≡ a_loan l
   unfolding content_kind
@@ -115,9 +116,9 @@ module _ (s : List ℕ) where
   other-is : (c : Content) → OtherForm c → ShowsInRange s c → OtherKind (kind_of (line_of s))
   other-is c o k = subst OtherKind (ap kind_of (sym (read s c (other_after c o) k))) (other-kind c o)
 
-  refused-kind : (n : ℕ) → line_of s ≡ Refusal n → kind_of (line_of s) ≡ refused n
+  refused-kind : (q : Reason) → line_of s ≡ Refusal q → kind_of (line_of s) ≡ refused (number_of q)
   unfolding content_kind
-  refused-kind n e = ap kind_of e
+  refused-kind q e = ap kind_of e
 
 -- What a line counts as
 
@@ -200,7 +201,7 @@ data MarkJudged (notes : List Note) (s : List ℕ) : ℕ → Type 0 where
 
 -- The rules of feeding, one for each answer.
 data Judged (t : Terms) (a : Accepted) (s : List ℕ) : ℕ → Type 0 where
-  by_bytes : (k : ℕ) → line_of s ≡ Refusal k → Judged t a s k
+  by_bytes : (q : Reason) → line_of s ≡ Refusal q → Judged t a s (number_of q)
   five : (l : Loan) → ShowsInRange s (loan l) → LoanBeyond t.header (counts_in a.kept) l.score → Judged t a s 5
   twelve : (l : Loan) → ShowsInRange s (loan l) → LoanFits t.header (counts_in a.kept) l.score → ValueMissing a.kept l → Judged t a s 12
   eight : (c : Content) → OtherForm c → ShowsInRange s c → 100000 ≤ (counts_in a.kept).other → Judged t a s 8
@@ -344,13 +345,16 @@ not-counts seven = apart 7 (omega arith) (λ z. omega (arith, z)) (λ z. omega (
 not-counts three = apart 3 (omega arith) (λ z. omega (arith, z)) (λ z. omega (arith, z))
 
 read_answer : (t : Terms) (a : Accepted) (s : List ℕ) {m : ℕ} → Reading m → line_refusal (line_of s) ≡ m → refusal_of t a s ≡ m
-read_answer t a s {m} r e = answers t a s (by_bytes m (refused-line (line_of s) m e (not-counts r).0))
+read_answer t a s {m} r e =
+    let (q, l, k) = refused-line (line_of s) m e (not-counts r).0 in
+    answers t a s (by_bytes q l) ∙ k
 
 -- line reading refuses with them alone
-by-reading : (s : List ℕ) (n : ℕ) → line_of s ≡ Refusal n → Reading n
-by-reading s n e =
+by-reading : (s : List ℕ) (q : Reason) → line_of s ≡ Refusal q → Reading (number_of q)
+by-reading s q e =
+    let n = number_of q in
     ⊎_elim (λ (x : n ≡ 1). subst Reading (sym x) one) (⊎_elim (λ (x : n ≡ 2). subst Reading (sym x) two)
-    (⊎_elim (λ (x : n ≡ 7). subst Reading (sym x) seven) (λ (x : n ≡ 3). subst Reading (sym x) three))) (line_numbers s n e)
+    (⊎_elim (λ (x : n ≡ 7). subst Reading (sym x) seven) (λ (x : n ≡ 3). subst Reading (sym x) three))) (line_numbers s q e)
 
 mark-least : {notes : List Note} {s : List ℕ} {k : ℕ} → MarkJudged notes s k → 13 ≤ k
 mark-least (thirteen name h e) = omega arith
@@ -479,32 +483,32 @@ closing-answer least t a size = record {
 -- Opening
 
 -- A header's number other than 0 and 10 is opening's, whatever the sheet.
-same_number : (sheet : List ℕ) (l : HeaderLine) (n : ℕ) → (n ≡ 0 → ⊥) → (n ≡ 10 → ⊥) → ((opening_for sheet l).refusal ≡ n) ↔ (header_refusal l ≡ n)
+same_number : (sheet : List ℕ) (l : Result Header Reason) (n : ℕ) → (n ≡ 0 → ⊥) → (n ≡ 10 → ⊥) → ((opening_for sheet l).refusal ≡ n) ↔ (header_refusal l ≡ n)
 same_number sheet l n z x = go (case_of sheet l)
   where
-    go : {l : HeaderLine} → Case sheet l → ((opening_for sheet l).refusal ≡ n) ↔ (header_refusal l ≡ n)
+    go : {l : Result Header Reason} → Case sheet l → ((opening_for sheet l).refusal ≡ n) ↔ (header_refusal l ≡ n)
     go (book_opens h e) = (λ k. absurd (z (sym k ∙ number (sheet-passes sheet h e))), λ k. absurd (z (sym k)))
     go (sheet_refused h e) = (λ k. absurd (x (sym k ∙ number (sheet-fails sheet h e))), λ k. absurd (z (sym k)))
     go (header_refused m) = (λ k. sym (number (header-fails sheet m)) ∙ k, λ k. number (header-fails sheet m) ∙ k)
 
 -- a book opened is that of the header read, under a sheet that passes
-opened-header : (sheet : List ℕ) (l : HeaderLine) (h : Header) → ((n : ℕ) → l ≡ HeaderRefusal n → n ≡ 0 → ⊥) → opening_for sheet l ≡ opened_under sheet h →
-    (l ≡ HeaderRead h) × (sheet_passes sheet ≡ true)
+opened-header : (sheet : List ℕ) (l : Result Header Reason) (h : Header) → ((q : Reason) → l ≡ Err q → number_of q ≡ 0 → ⊥) → opening_for sheet l ≡ opened_under sheet h →
+    (l ≡ Ok h) × (sheet_passes sheet ≡ true)
 opened-header sheet l h b e = go (case_of sheet l) b e
   where
-    go : {l : HeaderLine} → Case sheet l → ((n : ℕ) → l ≡ HeaderRefusal n → n ≡ 0 → ⊥) → opening_for sheet l ≡ opened_under sheet h →
-        (l ≡ HeaderRead h) × (sheet_passes sheet ≡ true)
-    go (book_opens x p) b e = (ap (λ (a : Answer). HeaderRead a.state.book.header) (sym (sheet-passes sheet x p) ∙ e), p)
+    go : {l : Result Header Reason} → Case sheet l → ((q : Reason) → l ≡ Err q → number_of q ≡ 0 → ⊥) → opening_for sheet l ≡ opened_under sheet h →
+        (l ≡ Ok h) × (sheet_passes sheet ≡ true)
+    go (book_opens x p) b e = (ap (λ (a : Answer). Ok a.state.book.header) (sym (sheet-passes sheet x p) ∙ e), p)
     go (sheet_refused x p) b e = absurd (omega (arith, number (sym (sheet-fails sheet x p) ∙ e)))
     go (header_refused n) b e = absurd (b n refl (number (sym (header-fails sheet n) ∙ e)))
 
 -- 10 is the sheet's alone
-turned_down : (sheet : List ℕ) (l : HeaderLine) → ((n : ℕ) → l ≡ HeaderRefusal n → n ≡ 10 → ⊥) → (opening_for sheet l).refusal ≡ 10 →
-    ((h : Header) × (l ≡ HeaderRead h)) × (sheet_passes sheet ≡ false)
+turned_down : (sheet : List ℕ) (l : Result Header Reason) → ((q : Reason) → l ≡ Err q → number_of q ≡ 10 → ⊥) → (opening_for sheet l).refusal ≡ 10 →
+    ((h : Header) × (l ≡ Ok h)) × (sheet_passes sheet ≡ false)
 turned_down sheet l b e = go (case_of sheet l) b e
   where
-    go : {l : HeaderLine} → Case sheet l → ((n : ℕ) → l ≡ HeaderRefusal n → n ≡ 10 → ⊥) → (opening_for sheet l).refusal ≡ 10 →
-        ((h : Header) × (l ≡ HeaderRead h)) × (sheet_passes sheet ≡ false)
+    go : {l : Result Header Reason} → Case sheet l → ((q : Reason) → l ≡ Err q → number_of q ≡ 10 → ⊥) → (opening_for sheet l).refusal ≡ 10 →
+        ((h : Header) × (l ≡ Ok h)) × (sheet_passes sheet ≡ false)
     go (book_opens h p) b e = absurd (omega (arith, sym (number (sheet-passes sheet h p)) ∙ e))
     go (sheet_refused h p) b e = ((h, refl), p)
     go (header_refused n) b e = absurd (b n refl (sym (number (header-fails sheet n)) ∙ e))
@@ -527,7 +531,7 @@ header-number n k =
     out x low high e = (λ z. omega (arith, e, z), λ z. omega (arith, e, z))
 
 -- what a header that is read shows
-opens-read : (s : List ℕ) (h : Header) → (header_of s ≡ HeaderRead h) ↔ Opens s h
+opens-read : (s : List ℕ) (h : Header) → (header_of s ≡ Ok h) ↔ Opens s h
 opens-read s h = (
   λ e. let (w, i, u, y) = (header-accepted s h).0 e in (record { shows = record { writable = w; bytes = y }; within_range = i }, u),
   λ (k, u). (header-accepted s h).1 (k.shows.writable, k.within_range, u, k.shows.bytes),
@@ -543,7 +547,7 @@ openings sheet s =
     let n4 = same_number sheet (header_of s) 4 (λ e. omega (arith, e)) (λ e. omega (arith, e)) in
     record {
       opens = λ h. (
-        λ e. let (k, p) = opened-header sheet (header_of s) h (λ m f. (header-number m (header-numbers s m f)).0) e in
+        λ e. let (k, p) = opened-header sheet (header_of s) h (λ q f. (header-number (number_of q) (header-numbers s q f)).0) e in
             ((opens-read s h).0 k, rules sheet p),
         λ (k, p). ap (opening_for sheet) ((opens-read s h).1 k) ∙ sheet-passes sheet h (passes sheet p),
       );
@@ -562,7 +566,7 @@ openings sheet s =
         λ (h, k, u). n4.1 (r.refused4.1 (h, k.shows.writable, k.within_range, u, k.shows.bytes)),
       );
       number_10 = (
-        λ e. let ((h, k), f) = turned_down sheet (header_of s) (λ m f. (header-number m (header-numbers s m f)).1) e in
+        λ e. let ((h, k), f) = turned_down sheet (header_of s) (λ q f. (header-number (number_of q) (header-numbers s q f)).1) e in
             ((h, (opens-read s h).0 k), (breaks sheet).0 f),
         λ ((h, k), f). number (ap (opening_for sheet) ((opens-read s h).1 k) ∙ sheet-fails sheet h ((breaks sheet).1 f)),
       );

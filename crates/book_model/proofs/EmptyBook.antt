@@ -5,7 +5,7 @@ use Prim.Native.Nat.{ℕ}
 use native.Mathlib.Omega.{arith}
 use Rattle.exact.specs.Decimal.{digits}
 use Rattle.exact.specs.Text.{text}
-use Rattle.line_forms.specs.declared.HeaderLine.TheVariants.{Header as HeaderRead}
+use Rattle.std.specs.Prelude.{Ok}
 use Rattle.line_forms.specs.declared.Content.TheVariants.{Header as header}
 use Rattle.line_forms.specs.Contents.{bytes_of}
 use Rattle.line_forms.specs.Readings.{header_of}
@@ -36,7 +36,7 @@ pub no-sums : (t : Terms) (kept : List (List ℕ)) → other_lines kept ≡ [] �
 unfolding sums_by sum_of
 no-sums t kept e = sym (sums-others (basis_of t kept) kept) ∙ ap (sums_by (basis_of t kept)) e
 
-zero-read : header_of (bytes_of (header zero_header)) ≡ HeaderRead zero_header
+zero-read : header_of (bytes_of (header zero_header)) ≡ Ok zero_header
 zero-read = bytes_read.header_back zero_header (header-in-range zero_header (omega arith) (omega arith)) (omega arith)
 
 zero-line : bytes_of (header zero_header) ≡ text "(book (loans 0) (unscored 0) (fresh 0) (held 0))"

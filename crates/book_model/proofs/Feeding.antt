@@ -19,11 +19,13 @@ use Rattle.sheet.proofs.Loading.{within_range, built_in as built-in-rules}
 use Rattle.sheet.proofs.Rules.{rules}
 use Rattle.line_forms.specs.declared.Content.{Content}
 use Rattle.line_forms.specs.declared.Header.{Header}
-use Rattle.line_forms.specs.declared.HeaderLine.{HeaderLine}
+use Rattle.std.specs.Prelude.{Result}
+use Rattle.line_forms.specs.declared.refusal.Refusal.{Refusal as Reason}
 use Rattle.line_forms.specs.declared.Line.{Line}
 use Rattle.line_forms.specs.declared.Loan.{Loan}
 use Rattle.line_forms.specs.declared.MarkLine.{MarkLine}
 use Rattle.line_forms.specs.declared.Line.TheVariants.{Refusal}
+use Rattle.line_forms.specs.Refusals.{number_of}
 use Rattle.line_forms.specs.Claims.{line_refusal, line_content}
 use Rattle.figures.specs.declared.Counts.{Counts}
 use Rattle.figures.specs.declared.Sums.{Sums}
@@ -97,10 +99,10 @@ pub refused-sound : Sound (empty_state refused_terms)
 refused-sound =
     empty-state refused_terms (record { loans = omega arith; scores = omega arith; held = omega arith }) built_in (rates-length built_in_sheet built-in-rules)
 
-pub opening_sound : (sheet : List ℕ) (l : HeaderLine) → RangedHeader l → Sound (opening_for sheet l).state
+pub opening_sound : (sheet : List ℕ) (l : Result Header Reason) → RangedHeader l → Sound (opening_for sheet l).state
 opening_sound sheet l r = go (case_of sheet l) r
   where
-    go : {l : HeaderLine} → Case sheet l → RangedHeader l → Sound (opening_for sheet l).state
+    go : {l : Result Header Reason} → Case sheet l → RangedHeader l → Sound (opening_for sheet l).state
     go (book_opens h e) r =
         subst (λ (a : Answer). Sound a.state) (sym (sheet-passes sheet h e)) (empty-state (under_sheet h sheet) r (within_range sheet (rules sheet e))
         (rates-length sheet (rules sheet e)))
@@ -366,25 +368,25 @@ fed-sound s l h r = go (held-mark (line_content l)) refl
     go (no_mark k) e = rw (k State (state_marked (refusal_in s l) s) (state_after s l)) (added-sound s l h r)
 
 -- A line refused by its bytes adds nothing, whatever its number.
-pub fed-refused : (s : State) (n : ℕ) → record { refusal = n; state = s } ≡ feeding_line s (Refusal n)
+pub fed-refused : (s : State) (q : Reason) → record { refusal = number_of q; state = s } ≡ feeding_line s (Refusal q)
 unfolding feeding_line book_after cells_after cells_with index_after index_with refusal_for content_kind share
-fed-refused s n = go (eqb n 0)
+fed-refused s q = go (number_of q) (eqb (number_of q) 0)
   where
-    go : (test : Bool) → ◌≡◌ {A = Answer} (record { refusal = n; state = s })
+    go : (n : ℕ) (test : Bool) → ◌≡◌ {A = Answer} (record { refusal = n; state = s })
         (record {
           refusal = n;
           state = state_at (pick test (record { header = s.book.header; sums = plus s.book.sums no_sums; indexed = s.book.indexed + 0 }) s.book)
               s.rates
               (pick test s.cells s.cells) (pick test s.index s.index) s.marks;
         })
-    go true =
+    go n true =
         let z : s.book.indexed ≡ s.book.indexed + 0 = omega arith in
         λ i. record {
           refusal = n;
           state = state_at (record { header = s.book.header; sums = sym (plus_none s.book.sums) i; indexed = z i }) s.rates s.cells s.index
               s.marks;
         }
-    go false = refl
+    go n false = refl
 
 -- Whatever a line holds, the rates stay.
 pub rates-kept : (s : State) (l : Line) → (feeding_line s l).state.rates ≡ s.rates

@@ -8,8 +8,9 @@ use Rattle.loan_charge.specs.CreditFactor.{hundredths, band, column, column_serv
 use Rattle.sheet.specs.Sheet.{SheetRules}
 use Rattle.line_forms.specs.declared.Content.TheVariants.{Header as header}
 use Rattle.line_forms.specs.declared.Header.{Header}
-use Rattle.line_forms.specs.declared.HeaderLine.{HeaderLine}
-use Rattle.line_forms.specs.declared.HeaderLine.TheVariants.{Header as HeaderRead, Refusal as HeaderRefusal}
+use Rattle.line_forms.specs.declared.refusal.Refusal.{Refusal as Reason}
+use Rattle.std.specs.Prelude.{Result, Ok, Err}
+use Rattle.line_forms.specs.Refusals.{number_of}
 use Rattle.line_forms.specs.Contents.{bytes_of}
 use Rattle.line_forms.specs.Readings.{header_of}
 use Rattle.line_forms.proofs.HeaderCounts.{aged-serves, first-serves}
@@ -68,12 +69,12 @@ opened_with (opened sheet line) = refl
 opened_with (fed past line) = opened_with past
 
 -- the header that is read of a line that opens a book
-read-header : (sheet line : List ℕ) → (opening sheet line).refusal ≡ 0 → header_of line ≡ HeaderRead (terms_for sheet (header_of line)).header
+read-header : (sheet line : List ℕ) → (opening sheet line).refusal ≡ 0 → header_of line ≡ Ok (terms_for sheet (header_of line)).header
 unfolding terms_for
-read-header sheet line e = go (case_of sheet (header_of line)) (λ n f. (header-number n (header-numbers line n f)).0) e
+read-header sheet line e = go (case_of sheet (header_of line)) (λ q f. (header-number (number_of q) (header-numbers line q f)).0) e
   where
-    go : {l : HeaderLine} → Case sheet l → ((n : ℕ) → l ≡ HeaderRefusal n → n ≡ 0 → ⊥) → (opening_for sheet l).refusal ≡ 0 →
-        l ≡ HeaderRead (terms_for sheet l).header
+    go : {l : Result Header Reason} → Case sheet l → ((q : Reason) → l ≡ Err q → number_of q ≡ 0 → ⊥) → (opening_for sheet l).refusal ≡ 0 →
+        l ≡ Ok (terms_for sheet l).header
     go (book_opens h p) b e = rw p refl
     go (sheet_refused h p) b e = absurd (omega (arith, sym (number (sheet-fails sheet h p)) ∙ e))
     go (header_refused n) b e = absurd (b n refl (sym (number (header-fails sheet n)) ∙ e))

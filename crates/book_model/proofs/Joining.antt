@@ -15,12 +15,13 @@ use Rattle.line_forms.proofs.Bytes.{and_both, within-bounds}
 use Rattle.line_forms.proofs.HeaderCounts.{first-serves}
 use Rattle.figures.proofs.SumsLaws.{plus-bounded}
 use Rattle.book_model.specs.Accepted.{most_other}
-use Rattle.book_model.specs.Calls.{State, Answer, closing, closed, closing_cells, closed_cells, Sound}
+use Rattle.book_model.specs.Calls.{state_at, State, Answer, closing, closed, closing_cells, closed_cells, Sound}
 use Rattle.book_model.specs.Cells.{CellsBounded}
 use Rattle.book_model.specs.Demand1.{refused_state}
 use Rattle.book_model.specs.Demand2.{CountsReached}
 use Rattle.book_model.specs.GivenState.{state_given}
 use Rattle.book_model.specs.History.{History, terms_of, accepted_of, lines_taken}
+use Rattle.book_model.specs.Marks.{no_marks}
 use Rattle.book_model.specs.Joining.{joined_header, KeepsChoices, MayJoin, alike, many_unscored_lem, keeps_choices_lem, same_factors_lem, same_index_lem, may_join_lem, places, added_cells}
 use Rattle.book_model.specs.Joining.{joined_state, joining, index_lines, other_lines, one_book, standing_in_both, LinesOfBoth, JoinedBooks, ClosedAlike}
 use Rattle.book_model.specs.Joining.{JoiningAnswer, Joining}
@@ -256,4 +257,16 @@ joining-holds = record {
   taken_in_order = λ j l. taken_in_order j l;
   as_one_book = λ j l. as_one_book j l;
   closes = λ j l. closed-alike (as_one_book j l);
+}
+
+-- a sound book is sound without its marks
+pub without-marks-sound : {s : State} → Sound s → Sound (state_at s.book s.rates s.cells s.index no_marks)
+without-marks-sound {s} h = record {
+  book = h.book;
+  rates = h.rates;
+  rates_size = h.rates_size;
+  cells = h.cells;
+  cells_size_law = h.cells_size_law;
+  index = h.index;
+  marks = no-marks-sound s.book.header;
 }

@@ -6,8 +6,9 @@ use Prim.Native.Nat.{ℕ}
 use Rattle.line_forms.specs.declared.Line.{Line}
 use Rattle.line_forms.specs.declared.Line.TheVariants.{Loan as LoanLine, Policy as PolicyLine, Derivative as DerivativeLine, Asset as AssetLine}
 use Rattle.line_forms.specs.declared.Line.TheVariants.{Amount as AmountLine, Index as IndexLine, Mark as MarkRead, Refusal}
-use Rattle.line_forms.specs.declared.HeaderLine.{HeaderLine}
-use Rattle.line_forms.specs.declared.HeaderLine.TheVariants.{Header as HeaderRead, Refusal as HeaderRefusal}
+use Rattle.line_forms.specs.declared.Header.{Header}
+use Rattle.line_forms.specs.declared.refusal.Refusal.{Refusal as Reason}
+use Rattle.std.specs.Prelude.{Result, Ok, Err}
 use Rattle.line_forms.specs.declared.Content.TheVariants.{Mark as mark}
 use Rattle.line_forms.specs.Claims.{line_content}
 use Rattle.line_forms.specs.Readings.{line_of, header_of}
@@ -57,6 +58,6 @@ ranged s = go (line_of s) refl
 pub ranged-header : (s : List ℕ) → RangedHeader (header_of s)
 ranged-header s = go (header_of s) refl
   where
-    go : (l : HeaderLine) → header_of s ≡ l → RangedHeader l
-    go (HeaderRead h) e = let b : HeaderBounds h = header-bounds s h e in record { loans = b.loans.high; scores = b.scores; held = b.held.high }
-    go (HeaderRefusal n) e = tt
+    go : (l : Result Header Reason) → header_of s ≡ l → RangedHeader l
+    go (Ok h) e = let b : HeaderBounds h = header-bounds s h e in record { loans = b.loans.high; scores = b.scores; held = b.held.high }
+    go (Err n) e = tt

@@ -5,6 +5,7 @@ use mathlib.Core.Logic.{◌↔◌, ◌⊎◌, inl, inr, ⊎_elim}
 use Prim.Native.Nat.{ℕ, ◌+◌, ◌≤◌, ◌<◌}
 use native.Mathlib.Omega.{arith}
 use lib.Dec.{eqb, leb, ltb}
+use mir.Val.{bool_byte}
 use borrow.Author.Tests.{eqb-true, eqb-false, leb-true, leb-false, le-leb, lt-leb, ltb-true, ltb-false, lt-ltb, le-ltb}
 use Rattle.exact.specs.Choice.{pick}
 use Rattle.loan_charge.specs.declared.Score.{Score}
@@ -15,6 +16,11 @@ use Rattle.book_model.specs.Accepted.{loan_beyond_lem}
 use Rattle.book_model.specs.Calls.{lacks_lines}
 use Rattle.book_model.specs.Demand2.{Fresh, LoanFits, LoanBeyond, CountsShort, CountsReached}
 use Rattle.book_model.specs.LineKinds.{unscored_count, fresh_count}
+
+-- a test as a number, as a conversion gives it
+pub byte-pick : (t : Bool) → bool_byte t ≡ pick t 1 0
+byte-pick true = refl
+byte-pick false = refl
 
 pub record Tests (t : Bool) (P Q : Type 0) : Type 0 where
   pub holds : (t ≡ true) ↔ P

@@ -1,12 +1,12 @@
 -- Opening, feeding and closing a book as functions: the contracts of the calls equate their answers with these.
-use Rattle.std.specs.Prelude.{ℕ, suc, ◌+◌, ◌*◌, ◌≤◌, Bool, ◌||◌, ◌≡◌, List, [], ltb, eqb, length, get_or, set}
+use Rattle.std.specs.Prelude.{ℕ, Result, Ok, Err, suc, ◌+◌, ◌*◌, ◌≤◌, Bool, ◌||◌, ◌≡◌, List, [], ltb, eqb, length, get_or, set}
 use Rattle.exact.specs.Choice.{pick}
 use Rattle.line_forms.specs.declared.Header.{Header}
-use Rattle.line_forms.specs.declared.HeaderLine.{HeaderLine}
-use Rattle.line_forms.specs.declared.HeaderLine.TheVariants.{Header as HeaderRead, Refusal as HeaderRefusal}
 use Rattle.line_forms.specs.declared.MarkLine.{MarkLine}
+use Rattle.line_forms.specs.declared.refusal.Refusal.{Refusal}
 use Rattle.line_forms.specs.declared.Content.{Content}
 use Rattle.line_forms.specs.declared.Line.{Line}
+use Rattle.line_forms.specs.Refusals.{number_of}
 use Rattle.line_forms.specs.Claims.{line_content}
 use Rattle.line_forms.specs.Readings.{line_of, header_of}
 use Rattle.loan_charge.specs.CreditFactor.{rate_places, RatesInRange}
@@ -19,9 +19,7 @@ use Rattle.report.specs.Line.{onto}
 use Rattle.book_report.specs.Report.{report_text}
 use Rattle.cell_report.specs.CellReport.{cell_at, cells_text}
 use Rattle.book_model.specs.declared.Book.{Book}
-use Rattle.book_model.specs.declared.Closed.{Closed}
-use Rattle.book_model.specs.declared.Fed.{Fed}
-use Rattle.book_model.specs.declared.Opened.{Opened}
+use Rattle.book_model.specs.declared.OpenBook.{OpenBook}
 use Rattle.book_model.specs.Accepted.{most_other, refusal_for}
 use Rattle.book_model.specs.Cells.{empty_cells, cells_with, CellsBounded}
 use Rattle.book_model.specs.HouseIndex.{values_at, empty_index, index_with, index_line, IndexSound}
@@ -30,13 +28,9 @@ use Rattle.book_model.specs.Marks.{most_marks, place_among, row_of, name_in, boo
 use Rattle.book_model.specs.Share.{share}
 use Rattle.book_model.specs.Terms.{Terms, Basis, under, terms_for}
 
--- A book as the calls have it: what goes by value, and the tables lent with it.
-pub record State : Type 0 where
-  pub book : Book
-  pub rates : List ℕ
-  pub cells : List ℕ
-  pub index : List ℕ
-  pub marks : List (List ℕ)
+-- A book as the calls have it: its numbers, and the tables with it.
+abbrev pub State : Type 0
+State = OpenBook
 
 abbrev pub state_at : Book → (rates cells index : List ℕ) → (marks : List (List ℕ)) → State
 state_at b rates cells index marks = record { book = b; rates = rates; cells = cells; index = index; marks = marks }
@@ -56,16 +50,19 @@ basis_in s = basis_at s.book.header s.rates s.index
 abbrev pub counts_of : Book → Counts
 counts_of b = with_indexed b.sums.counts b.indexed
 
--- An answer: the refusal, 0 for none, and the state after the call. By value go the refusal and the book.
+-- An answer: the refusal, 0 for none, and the state after the call.
 pub record Answer : Type 0 where
   pub refusal : ℕ
   pub state : State
 
-abbrev pub opened_of : Answer → Opened
-opened_of a = record { refusal = a.refusal; book = a.state.book }
+-- What the code's answers say: the number of a refusal, 0 for none, ..
+abbrev pub told : {A : Type 0} → Result A Refusal → ℕ
+told (Ok x) = 0
+told (Err r) = number_of r
 
-abbrev pub fed_of : Answer → Fed
-fed_of a = record { refusal = a.refusal; book = a.state.book }
+-- .. of a call after which an open book is in this state, ..
+abbrev pub answered : {A : Type 0} → Result A Refusal → State → Answer
+answered r s = record { refusal = told r; state = s }
 
 -- Opening
 
@@ -77,11 +74,11 @@ abbrev pub empty_state : Terms → State
 empty_state t = state_at (empty_book t.header) t.rates empty_cells empty_index no_marks
 
 -- Its refusal, 0 for none: the header's first; then 10, where the sheet of factors lent breaks a rule (02, L3).
-unfoldable pub opening_refusal : (sheet : List ℕ) → HeaderLine → ℕ
-opening_refusal sheet (HeaderRead h) = pick (sheet_passes sheet) 0 10
-opening_refusal sheet (HeaderRefusal n) = n
+unfoldable pub opening_refusal : (sheet : List ℕ) → Result Header Refusal → ℕ
+opening_refusal sheet (Ok h) = pick (sheet_passes sheet) 0 10
+opening_refusal sheet (Err r) = number_of r
 
-abbrev pub opening_for : (sheet : List ℕ) → HeaderLine → Answer
+abbrev pub opening_for : (sheet : List ℕ) → Result Header Refusal → Answer
 opening_for sheet l = record { refusal = opening_refusal sheet l; state = empty_state (terms_for sheet l) }
 
 -- Without a sheet the one lent is the regulator's table, built_in_sheet.
@@ -185,6 +182,15 @@ abbrev pub closing_refusal_lem : (least : ℕ) → Header → Counts → (size :
 closing_refusal_lem least h c size = pick (lacks_lines h c) 6 (pick (ltb size least) 9 0)
 
 -- It answers its refusal, 0 for none, and the length of the text it wrote;
+pub record Closed : Type 0 where
+  pub refusal : ℕ
+  pub length : ℕ
+
+-- (the code's answer tells a length where it is not refused)
+abbrev pub closed_by : Result ℕ Refusal → Closed
+closed_by (Ok n) = record { refusal = 0; length = n }
+closed_by (Err r) = record { refusal = number_of r; length = 0 }
+
 unfoldable pub closing_with : (least : ℕ) → Book → (text : List ℕ) → (size : ℕ) → Closed
 closing_with least b text size = record {
   refusal = closing_refusal_lem least b.header b.sums.counts size;

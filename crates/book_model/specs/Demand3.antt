@@ -18,9 +18,8 @@ use Rattle.report.specs.Decimal.{digits, value_of, signed}
 use Rattle.report.specs.Line.{line, line_count, onto}
 use Rattle.book_report.specs.Report.{report_text}
 use Rattle.book_model.specs.declared.Book.{Book}
-use Rattle.book_model.specs.declared.Closed.{Closed}
 use Rattle.book_model.specs.Accepted.{Note, Accepted, counts_in, refusal_of, accept}
-use Rattle.book_model.specs.Calls.{State, opening, feeding, closing, closed, closing_refusal_lem, report_size}
+use Rattle.book_model.specs.Calls.{Closed, State, opening, feeding, closing, closed, closing_refusal_lem, report_size}
 use Rattle.book_model.specs.Exact.{loan_total, loan_supplement, exact_rest, exact_moved, total_by, supplement_by, requirement}
 use Rattle.book_model.specs.History.{opened, all_fed, terms_of, accepted_of, lines_taken, sums_of}
 use Rattle.book_model.specs.Share.{share}

@@ -10,7 +10,6 @@ use Rattle.line_forms.specs.Claims.{line_content}
 use Rattle.line_forms.specs.Contents.{bytes_of, header_in_range, on_aged_table_lem}
 use Rattle.line_forms.specs.Readings.{line_of}
 use Rattle.figures.specs.Sums.{plus}
-use Rattle.book_model.specs.declared.Joined.{Joined}
 use Rattle.book_model.specs.Accepted.{most_other}
 use Rattle.book_model.specs.Calls.{State, Answer, state_at, empty_state, Sound, closing, closed, closing_cells, closed_cells}
 use Rattle.book_model.specs.Demand1.{refused_state}
@@ -110,10 +109,6 @@ joined_state a b = state_at
 -- "Where, and only where, a condition is wanting, 16 comes back, with a refused opening's value where one must stand"
 unfoldable pub joining : State → State → Answer
 joining a b = pick (may_join_lem a b) (record { refusal = 0; state = joined_state a b }) (record { refusal = 16; state = empty_state refused_terms })
-
--- by value go the refusal and the book
-abbrev pub joined_of : Answer → Joined
-joined_of a = record { refusal = a.refusal; book = a.state.book }
 
 -- The lines still standing in both, index lines once and first
 

@@ -1,6 +1,6 @@
 -- What is known of the numbers of a line or header that is read: the ranges of document 01, as far as the book's code needs them.
 -- Nothing here has to be believed: proofs/Ranged.antt has it of every line, from the laws of line reading, and proofs/Feeding.antt of what a loan adds.
-use Rattle.std.specs.Prelude.{◌+◌, ◌≤◌, ◌<◌, ◌%◌}
+use Rattle.std.specs.Prelude.{◌+◌, ◌≤◌, ◌<◌, ◌%◌, Result, Ok, Err}
 use Rattle.line_forms.specs.declared.Header.{Header}
 use Rattle.line_forms.specs.declared.IndexValue.{IndexValue}
 use Rattle.line_forms.specs.declared.Loan.{Loan}
@@ -12,8 +12,7 @@ use Rattle.line_forms.specs.declared.Amount.{Amount}
 use Rattle.line_forms.specs.declared.Content.{Content}
 use Rattle.line_forms.specs.declared.Content.TheVariants.{Header as header, Loan as loan, Policy as policy, Derivative as derivative, Asset as asset}
 use Rattle.line_forms.specs.declared.Content.TheVariants.{Amount as amount, Index as index, Mark as mark, NoForm}
-use Rattle.line_forms.specs.declared.HeaderLine.{HeaderLine}
-use Rattle.line_forms.specs.declared.HeaderLine.TheVariants.{Header as HeaderRead, Refusal as HeaderRefusal}
+use Rattle.line_forms.specs.declared.refusal.Refusal.{Refusal as Reason}
 use Rattle.cell_report.specs.declared.Cell.{Cell}
 use Rattle.book_model.specs.declared.Adjustment.{Adjustment}
 use Rattle.book_model.specs.HouseIndex.{InTable}
@@ -83,6 +82,6 @@ pub record HeaderRanges (h : Header) : Type 0 where
   pub scores : h.unscored + h.fresh ≤ h.loans
   pub held : h.held ≤ 10000000000000
 
-abbrev pub RangedHeader : HeaderLine → Type 0
-RangedHeader (HeaderRead h) = HeaderRanges h
-RangedHeader (HeaderRefusal n) = Unit {0}
+abbrev pub RangedHeader : Result Header Reason → Type 0
+RangedHeader (Ok h) = HeaderRanges h
+RangedHeader (Err r) = Unit {0}

@@ -1,5 +1,5 @@
 -- What a book is opened under, and what its loans are charged by.
-use Rattle.std.specs.Prelude.{ℕ, ◌*◌, List, eqb}
+use Rattle.std.specs.Prelude.{ℕ, ◌*◌, List, eqb, Result, Ok, Err}
 use Rattle.exact.specs.Choice.{pick}
 use Rattle.loan_charge.specs.declared.LoanInputs.{LoanInputs}
 use Rattle.loan_charge.specs.declared.Score.{Score}
@@ -7,8 +7,7 @@ use Rattle.loan_charge.specs.CreditFactor.{credit_factor_lem, rates_of_lem, buil
 use Rattle.sheet.specs.Sheet.{sheet_passes}
 use Rattle.line_forms.specs.Contents.{on_aged_table_lem}
 use Rattle.line_forms.specs.declared.Header.{Header}
-use Rattle.line_forms.specs.declared.HeaderLine.{HeaderLine}
-use Rattle.line_forms.specs.declared.HeaderLine.TheVariants.{Header as HeaderRead, Refusal as HeaderRefusal}
+use Rattle.line_forms.specs.declared.refusal.Refusal.{Refusal as Reason}
 use Rattle.line_forms.specs.declared.Loan.{Loan}
 use Rattle.book_model.specs.declared.Adjustment.{Adjustment}
 use Rattle.book_model.specs.HouseIndex.{Index, adjustment_of, values_in}
@@ -37,9 +36,9 @@ abbrev pub refused_terms : Terms
 refused_terms = terms_with zero_header
 
 -- What opening with a sheet and a line opens a book under, or leaves standing where either is refused.
-unfoldable pub terms_for : (sheet : List ℕ) → HeaderLine → Terms
-terms_for sheet (HeaderRead h) = pick (sheet_passes sheet) (under_sheet h sheet) refused_terms
-terms_for sheet (HeaderRefusal n) = refused_terms
+unfoldable pub terms_for : (sheet : List ℕ) → Result Header Reason → Terms
+terms_for sheet (Ok h) = pick (sheet_passes sheet) (under_sheet h sheet) refused_terms
+terms_for sheet (Err r) = refused_terms
 
 -- m of a loan with this score, in 10^-17
 unfoldable pub factor_for : Terms → Score → ℕ

@@ -5,8 +5,10 @@ ghost use Rattle.std.specs.Prelude.{◌≡◌};
 ghost use Rattle.book_model.specs.Calls.{empty_book};
 ghost use Rattle.book_model.specs.Terms.{zero_header};
 
+use cell_report::Cells;
 use figures::Sums;
 use line_forms::Header;
+use loan_charge::credit::Rates;
 
 // A book: its header, which never changes, the sums of the lines taken, and how many of these are index lines.
 #[derive(Clone, Copy)]
@@ -31,46 +33,32 @@ pub fn empty(header: Header) -> Book
 pub fn refused() -> Book
     ensures { result ≡ empty_book zero_header }
 {
-    let header = Header {
-        loans: 0,
-        unscored: 0,
-        fresh: 0,
-        held: 0,
-    };
-    empty(header)
+    empty(Header::default())
 }
 
 // The two values of the house price index by which a property value is adjusted: that of 201512 and that of the loan's month.
+// Kept: 0 for a value that is lacking, since the definitions adjustment_of and lacking look values up as numbers of values_at, 0 for none.
 #[derive(Clone, Copy)]
 pub struct Adjustment {
     pub last: u64,
     pub own: u64,
 }
 
-// The answer of opening: a refusal, 0 for none, and the book.
-#[derive(Clone, Copy)]
-pub struct Opened {
-    pub refusal: u64,
-    pub book: Book,
-}
+// The values of the house price index, by area and month (crate house_index): 0 where none is set.
+pub type Index = [u64; 1584];
 
-// The answer of feeding: a refusal, 0 for none, and the book.
-#[derive(Clone, Copy)]
-pub struct Fed {
-    pub refusal: u64,
-    pub book: Book,
-}
+// What a mark keeps, as numbers (crate marks).
+pub type Row = [u64; 1844];
 
-// The answer of a closing: a refusal, 0 for none, and the length of the text written, 0 where refused.
-#[derive(Clone, Copy)]
-pub struct Closed {
-    pub refusal: u64,
-    pub length: usize,
-}
+pub type Marks = [Row; 8];
 
-// The answer of joining: a refusal, 0 for none, and the book.
+// An open book: its numbers, the credit factors that it is charged by, its table of cells, its index values and its marks.
+// Kept: `Sound` is no invariant of it, since openings, `reset` and the second closing take any book (histories, CallsAsked).
 #[derive(Clone, Copy)]
-pub struct Joined {
-    pub refusal: u64,
+pub struct OpenBook {
     pub book: Book,
+    pub rates: Rates,
+    pub cells: Cells,
+    pub index: Index,
+    pub marks: Marks,
 }

@@ -7,8 +7,7 @@ use lib.ListN.{length, length-append}
 use Rattle.exact.specs.Text.{text}
 use Rattle.fixed_point.specs.declared.Signed.{Signed}
 use Rattle.figures.specs.declared.Figures.{Figures}
-use Rattle.figures.specs.declared.Ratio.{Ratio}
-use Rattle.figures.specs.declared.Ratio.TheVariants.{Number, None}
+use Rattle.std.specs.Prelude.{Option, Some, None}
 use Rattle.figures.specs.Figures.{RatioBounds, FigureBounds}
 use Rattle.report.proofs.Lines.{one-length, value-line-length}
 use Rattle.book_report.specs.Report.{unsigned, value_line, ratio_line, report_text}
@@ -24,9 +23,9 @@ together {a} {b} h k = record { most = omega (arith, length-append a b, h.most, 
 value_most : (name : String) (v : Signed) → v.plus < 2 ^ 64 → v.minus < 2 ^ 64 → Fits (value_line name v) (length (text name) + 25)
 value_most name v p q = record { most = value-line-length (text name) v p q }
 
-ratio-most : (r : Ratio) → RatioBounds r → Fits (ratio_line r) 30
+ratio-most : (r : Option Signed) → RatioBounds r → Fits (ratio_line r) 30
 unfolding ratio_line RatioBounds
-ratio-most (Number v) h = value_most "ratio" v (omega (arith, h.above)) (omega (arith, h.below))
+ratio-most (Some v) h = value_most "ratio" v (omega (arith, h.above)) (omega (arith, h.below))
 ratio-most None h = record { most = omega (arith, one-length (text "ratio") (text "none")) }
 
 lines_most : (f : Figures) → FigureBounds f → Fits (report_text f) 307

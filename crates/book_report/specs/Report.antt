@@ -1,11 +1,9 @@
 -- The report's ten lines (document 01, "The rest, and closing"): each number as an S, each line ended by a newline.
-use Rattle.std.specs.Prelude.{ℕ, List, [], ◌∷◌, ◌++◌}
+use Rattle.std.specs.Prelude.{ℕ, List, [], ◌∷◌, ◌++◌, Option, Some, None}
 use Prim.Native.String.{String}
 use Rattle.exact.specs.Text.{text}
 use Rattle.fixed_point.specs.declared.Signed.{Signed}
 use Rattle.figures.specs.declared.Figures.{Figures}
-use Rattle.figures.specs.declared.Ratio.{Ratio}
-use Rattle.figures.specs.declared.Ratio.TheVariants.{Number, None}
 use Rattle.report.specs.Decimal.{signed}
 use Rattle.report.specs.Line.{line}
 
@@ -18,8 +16,8 @@ abbrev pub value_line : String → Signed → List ℕ
 value_line name value = line (text name) (signed value ∷ [])
 
 -- (ratio VALUE), or (ratio none) where nothing is required
-unfoldable pub ratio_line : Ratio → List ℕ
-ratio_line (Number value) = value_line "ratio" value
+unfoldable pub ratio_line : Option Signed → List ℕ
+ratio_line (Some value) = value_line "ratio" value
 ratio_line None = line (text "ratio") (text "none" ∷ [])
 
 -- the first five lines

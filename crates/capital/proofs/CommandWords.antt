@@ -1,17 +1,36 @@
 -- The words of a command, case by case. Assumes nothing.
-use mathlib.Core.Path.{◌≡◌, refl, ap}
-use mathlib.Core.Bool.{Bool, true, false, not, ◌&&◌}
+use mathlib.Core.Path.{◌≡◌, refl, sym, ap}
+use mathlib.Core.Bool.{Bool, true, false, not, ◌&&◌, true≢false, false≢true}
 use mathlib.Core.List.{List}
 use Prim.Native.Nat.{ℕ, ◌+◌, ◌≤◌}
 use native.Mathlib.Omega.{arith}
-use lib.Dec.{eqb, ltb}
-use borrow.Author.Tests.{eq-eqb, ne_eqb, ltb-true}
+use lib.Dec.{ltb}
+use borrow.Author.Tests.{ltb-true}
+use Rattle.std.specs.Prelude.{Option, Some, None, is_some, is_none}
 use Rattle.exact.specs.Choice.{pick}
 use Rattle.exact.specs.Text.{text}
 use Rattle.line_forms.specs.Bytes.{same}
 use Rattle.line_forms.proofs.Bytes.{same-eq}
 use Rattle.capital.specs.declared.Words.{Words}
 use Rattle.capital.specs.Arguments.{with_cells, with_sheet, with_files, with_word, FilesNamed, CommandWords}
+
+-- what is not none
+some-is : (o : Option ℕ) → (o ≡ None → ⊥) → is_none o ≡ false
+some-is None n = absurd (n refl)
+some-is (Some x) n = refl
+
+-- what a test of an option tells
+pub when-some : (o : Option ℕ) → is_some o ≡ true → o ≡ None → ⊥
+when-some None e n = false≢true e
+when-some (Some x) e n = true≢false (sym (ap is_none n))
+
+pub when-none : (o : Option ℕ) → is_some o ≡ false → o ≡ None
+when-none None e = refl
+when-none (Some x) e = absurd (true≢false e)
+
+pub none-tested : (o : Option ℕ) {r : Bool} → is_some o ≡ not r → r ≡ is_none o
+none-tested o {r = true} e = ap not (sym e)
+none-tested o {r = false} e = ap not (sym e)
 
 another : (word wanted : List ℕ) → (word ≡ wanted → ⊥) → same word wanted ≡ false
 another word wanted n = go (same word wanted) refl
@@ -29,7 +48,7 @@ pub keeps : (w : Words) (word : List ℕ) (arguments : ℕ) → FilesNamed w arg
     ((with_word w word (ltb (w.next + 1) arguments)).next ≤ w.next + 2) × FilesNamed (with_word w word (ltb (w.next + 1) arguments)) arguments
 unfolding with_word
 keeps w word arguments h =
-    go (eqb w.files 0) (same word (text "cells") && not w.cells) ((same word (text "sheet") && eqb w.sheet 0) && ltb (w.next + 1) arguments)
+    go (is_none w.files) (same word (text "cells") && not w.cells) ((same word (text "sheet") && is_none w.sheet) && ltb (w.next + 1) arguments)
     (same word (text "join")) (ltb (w.next + 1) arguments) refl
   where
     go : (a b c d m : Bool) → ltb (w.next + 1) arguments ≡ m → ((choice w a b c (d && m)).next ≤ w.next + 2) × FilesNamed (choice w a b c (d && m)) arguments
@@ -38,32 +57,32 @@ keeps w word arguments h =
     go true false true d m e = (omega arith, h)
     go true false false false m e = (omega arith, h)
     go true false false true false e = (omega arith, h)
-    go true false false true true e = (omega arith, λ z. ltb-true (w.next + 1) arguments e)
+    go true false false true true e = (omega arith, (omega arith, ltb-true (w.next + 1) arguments e))
 
 -- what the tests of a word come to: s, t and u say which it is
 module _ (w : Words) (word : List ℕ) (more : Bool) where
-  pub is-after : (w.files ≡ 0 → ⊥) → w ≡ with_word w word more
+  pub is-after : (w.files ≡ None → ⊥) → w ≡ with_word w word more
   unfolding with_word
-  is-after n = rw (ne_eqb w.files 0 n) refl
+  is-after n = rw (some-is w.files n) refl
 
-  module _ (z : w.files ≡ 0) {s : Bool} (e : s ≡ same word (text "cells")) where
+  module _ (z : w.files ≡ None) {s : Bool} (e : s ≡ same word (text "cells")) where
     pub is-cells : (s && not w.cells) ≡ true → with_cells w ≡ with_word w word more
     unfolding with_word
-    is-cells f = rw (eq-eqb w.files 0 z, ← e, f) refl
+    is-cells f = rw (ap is_none z, ← e, f) refl
 
     module _ {t : Bool} (n : (s && not w.cells) ≡ false) (d : t ≡ same word (text "sheet")) where
-      pub is-sheet : ((t && eqb w.sheet 0) && more) ≡ true → with_sheet w ≡ with_word w word more
+      pub is-sheet : ((t && is_none w.sheet) && more) ≡ true → with_sheet w ≡ with_word w word more
       unfolding with_word
-      is-sheet f = rw (eq-eqb w.files 0 z, ← e, n, ← d, f) refl
+      is-sheet f = rw (ap is_none z, ← e, n, ← d, f) refl
 
-      module _ {u : Bool} (m : ((t && eqb w.sheet 0) && more) ≡ false) (c : u ≡ same word (text "join")) where
+      module _ {u : Bool} (m : ((t && is_none w.sheet) && more) ≡ false) (c : u ≡ same word (text "join")) where
         pub is_join : (u && more) ≡ true → with_files w ≡ with_word w word more
         unfolding with_word
-        is_join f = rw (eq-eqb w.files 0 z, ← e, n, ← d, m, ← c, f) refl
+        is_join f = rw (ap is_none z, ← e, n, ← d, m, ← c, f) refl
 
-        pub is_none : (u && more) ≡ false → w ≡ with_word w word more
+        pub is_unknown : (u && more) ≡ false → w ≡ with_word w word more
         unfolding with_word
-        is_none f = rw (eq-eqb w.files 0 z, ← e, n, ← d, m, ← c, f) refl
+        is_unknown f = rw (ap is_none z, ← e, n, ← d, m, ← c, f) refl
 
 -- whether or not files were asked for
 either : (w v : Words) → v ≡ w → (t : Bool) → pick t v w ≡ w
@@ -73,17 +92,17 @@ either w v e false = refl
 pub command-words : CommandWords
 unfolding with_word same
 command-words = record {
-  cells = λ w more z e. rw (eq-eqb w.files 0 z, e) refl;
+  cells = λ w more z e. rw (ap is_none z, e) refl;
   cells_again = λ w more e.
-      either w (pick (not w.cells) (with_cells w) w) (ap (λ (t : Bool). pick (not t) (with_cells w) w) e) (eqb w.files 0);
-  sheet = λ w z e. rw (eq-eqb w.files 0 z, eq-eqb w.sheet 0 e) refl;
-  sheet_again = λ w more n. rw (ne_eqb w.sheet 0 n) (either w w refl (eqb w.files 0));
-  sheet_last = λ w. either w (pick (eqb w.sheet 0 && false) (with_sheet w) w) (last w (eqb w.sheet 0)) (eqb w.files 0);
-  join = λ w z. rw (eq-eqb w.files 0 z) refl;
-  join_last = λ w. either w w refl (eqb w.files 0);
-  after_join = λ w word more n. rw (ne_eqb w.files 0 n) refl;
+      either w (pick (not w.cells) (with_cells w) w) (ap (λ (t : Bool). pick (not t) (with_cells w) w) e) (is_none w.files);
+  sheet = λ w z e. rw (ap is_none z, ap is_none e) refl;
+  sheet_again = λ w more n. rw (some-is w.sheet n) (either w w refl (is_none w.files));
+  sheet_last = λ w. either w (pick (is_none w.sheet && false) (with_sheet w) w) (last w (is_none w.sheet)) (is_none w.files);
+  join = λ w z. rw (ap is_none z) refl;
+  join_last = λ w. either w w refl (is_none w.files);
+  after_join = λ w word more n. rw (some-is w.files n) refl;
   other = λ w word more n m k.
-      rw (another word (text "cells") n, another word (text "sheet") m, another word (text "join") k) (either w w refl (eqb w.files 0));
+      rw (another word (text "cells") n, another word (text "sheet") m, another word (text "join") k) (either w w refl (is_none w.files));
 }
   where
     last : (w : Words) (t : Bool) → pick (t && false) (with_sheet w) w ≡ w

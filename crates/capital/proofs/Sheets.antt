@@ -9,10 +9,11 @@ use lib.Dec.{eqb}
 use lib.ListN.{length, take}
 use lib.Seq.{take_all, length-take-le}
 use borrow.Author.Tests.{ne_eqb}
+use Rattle.std.specs.Prelude.{Result, Ok, Err}
 use Rattle.exact.specs.Choice.{pick}
 use Rattle.report.specs.Line.{refusal_line}
-use Rattle.line_forms.specs.declared.HeaderLine.{HeaderLine}
-use Rattle.line_forms.specs.declared.HeaderLine.TheVariants.{Header as HeaderRead, Refusal as HeaderRefusal}
+use Rattle.line_forms.specs.declared.Header.{Header}
+use Rattle.line_forms.specs.declared.refusal.Refusal.{Refusal}
 use Rattle.line_forms.specs.Readings.{header_of}
 use Rattle.sheet.specs.Sheet.{sheet_passes}
 use Rattle.sheet_file.specs.NumberList.{most}
@@ -22,9 +23,9 @@ use Rattle.driver.specs.Printed.{lines_of, printed_feeding, printed_lines, print
 use Rattle.capital.specs.Reads.{SheetFile}
 
 -- two sheets that fail open, and print, alike
-opens-alike : (s t : List ℕ) → sheet_passes s ≡ false → sheet_passes t ≡ false → (l : HeaderLine) → opening_for s l ≡ opening_for t l
-opens-alike s t e f (HeaderRead h) = sheet-fails s h e ∙ sym (sheet-fails t h f)
-opens-alike s t e f (HeaderRefusal n) = header-fails s n ∙ sym (header-fails t n)
+opens-alike : (s t : List ℕ) → sheet_passes s ≡ false → sheet_passes t ≡ false → (l : Result Header Refusal) → opening_for s l ≡ opening_for t l
+opens-alike s t e f (Ok h) = sheet-fails s h e ∙ sym (sheet-fails t h f)
+opens-alike s t e f (Err n) = header-fails s n ∙ sym (header-fails t n)
 
 prints-alike : (asked : Bool) (s t : List ℕ) → sheet_passes s ≡ false → sheet_passes t ≡ false → (lines : List (List ℕ)) →
     printed_lines asked s lines ≡ printed_lines asked t lines

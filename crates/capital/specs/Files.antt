@@ -1,18 +1,29 @@
 -- What the program does with the bytes of files that are books to be joined (02, L8).
-use Rattle.std.specs.Prelude.{ℕ, ◌+◌, ◌-◌, ◌≤◌, Bool, true, false, List, ◌++◌, ◌≡◌, length}
+use Rattle.std.specs.Prelude.{ℕ, Option, Some, None, Result, Ok, Err, ◌+◌, ◌-◌, ◌≤◌, Bool, true, false, List, ◌++◌, ◌≡◌, length}
 use Rattle.report.specs.Line.{Written}
 use Rattle.book_model.specs.Calls.{State, lacks_lines, Sound}
 use Rattle.driver.specs.Reading.{Stage}
 use Rattle.regions.specs.Regions.{region_of, joined_from, printed_regions}
 use Rattle.regions.specs.NextFile.{NextFile}
-use Rattle.capital.specs.declared.Output.{Output}
-use Rattle.capital.specs.declared.Step.{Step}
+use Rattle.capital.specs.declared.ReadFailed.{ReadFailed}
 use Rattle.capital.specs.declared.Words.{Words}
-use Rattle.capital.specs.Reads.{Answered}
+use Rattle.capital.specs.Reads.{Output, Answered}
 
 -- A file was read to its end: what the lines of some input give.
-abbrev pub FileRead : (sheet : List ℕ) → Stage → (failed : Bool) → Type 0
-FileRead sheet p failed = failed ≡ false → (input : List ℕ) × (p ≡ region_of sheet input)
+abbrev pub FileRead : (sheet : List ℕ) → Stage → Type 0
+FileRead sheet p = (input : List ℕ) × (p ≡ region_of sheet input)
+
+-- What one more file made of the book of those before it: `done` where something is to be printed, of `count` bytes, or a read failed,
+pub record Step : Type 0 where
+  pub count : ℕ
+  pub done : Bool
+  pub failed : Bool
+
+-- as the code's answers say it.
+abbrev pub step_of : Result (Option ℕ) ReadFailed → Step
+step_of (Ok (Some n)) = record { count = n; done = true; failed = false }
+step_of (Ok None) = record { count = 0; done = false; failed = false }
+step_of (Err e) = record { count = 0; done = true; failed = true }
 
 -- One more file was read, and joined to the book of those before it or not. Where a read failed, nothing is written.
 pub record NextRead (asked : Bool) (sheet : List ℕ) (before : State) (k : ℕ) (r : Step) (after : State) (old new : List ℕ) : Type 0 where
@@ -37,5 +48,5 @@ pub record AnsweredFiles (asked : Bool) (sheet : List ℕ) (n : ℕ) (old : List
 
 -- what the words ask for, of standard input or of the files that they name
 pub record AnsweredWords (w : Words) (arguments : ℕ) (sheet old : List ℕ) (r : Output) (new : List ℕ) : Type 0 where
-  pub input : w.files ≡ 0 → Answered w.cells sheet old r new
-  pub files : (w.files ≡ 0 → ⊥) → AnsweredFiles w.cells sheet (arguments - w.files) old r new
+  pub input : w.files ≡ None → Answered w.cells sheet old r new
+  pub files : (from : ℕ) → w.files ≡ Some from → AnsweredFiles w.cells sheet (arguments - from) old r new

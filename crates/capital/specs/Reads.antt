@@ -1,12 +1,11 @@
 -- What the program does with the bytes that its reads got.
-use Rattle.std.specs.Prelude.{ℕ, ◌≤◌, Bool, true, false, List, ◌⊎◌, ◌≡◌, length, take}
+use Rattle.std.specs.Prelude.{ℕ, Result, Ok, Err, ◌≤◌, Bool, true, false, List, ◌⊎◌, ◌≡◌, length, take}
 use Rattle.report.specs.Line.{Written}
-use Rattle.sheet_file.specs.declared.Numbers.{Numbers}
-use Rattle.sheet_file.specs.NumberList.{NumberText, ReadsNumbers}
+use Rattle.sheet_file.specs.NumberList.{Numbers, NumberText, ReadsNumbers}
 use Rattle.driver.specs.Printed.{printed}
 use Rattle.driver.specs.Program.{Settled}
 use Rattle.driver.specs.Reading.{Reading, from_start, with_bytes}
-use Rattle.capital.specs.declared.Output.{Output}
+use Rattle.capital.specs.declared.ReadFailed.{ReadFailed}
 
 -- After a read of n bytes into the buffer: the reading before with those bytes.
 pub record ReadsOn (before after : Reading) (n : ℕ) (buffer : List ℕ) : Type 0 where
@@ -23,6 +22,16 @@ pub record Reached (sheet : List ℕ) (s : Reading) (n : ℕ) : Type 0 where
 -- (Program.stops of driver); n counts the bytes of the last read.
 pub record EndsReading (s : Reading) (n : ℕ) (more failed : Bool) : Type 0 where
   pub ends : more ≡ false → (failed ≡ true) ⊎ (n ≡ 0) ⊎ Settled s
+
+-- How many bytes are to be written, and whether a read failed,
+pub record Output : Type 0 where
+  pub count : ℕ
+  pub failed : Bool
+
+-- as the code's answers say it.
+abbrev pub output_of : Result ℕ ReadFailed → Output
+output_of (Ok n) = record { count = n; failed = false }
+output_of (Err e) = record { count = 0; failed = true }
 
 -- What reading a book to its end left in the buffer: what is printed of some input under the sheet, from the buffer's start, and its length is
 -- told; where a read failed, nothing.

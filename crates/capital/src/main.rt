@@ -3,23 +3,20 @@
 // after these, it reads the books of those files, and prints the report of them joined.
 #![tactic(auto)]
 
-ghost use Rattle.std.specs.Prelude.{false, ◌≡◌, ◌+◌, ◌-◌, ◌^◌, ◌≤◌, ◌<◌, length, IfSome};
-ghost use Rattle.loan_charge.specs.Tables.{exponentials};
-ghost use Rattle.book_model.specs.Calls.{state_at, lacks_lines, report_size, cells_size, Sound};
-ghost use Rattle.book_model.specs.Marks.{no_marks};
-ghost use Rattle.driver.specs.Reading.{stage_at, reading_of, Running};
-ghost use Rattle.capital.specs.Files.{FileRead, NextRead, AnsweredOthers, AnsweredFiles, AnsweredWords};
-ghost use Rattle.capital.specs.Reads.{ReadsOn, Reached, EndsReading, Answered, SheetRead};
+ghost use Rattle.std.specs.Prelude.{◌≡◌, ◌+◌, ◌-◌, ◌^◌, ◌≤◌, ◌<◌, false, length, is_none, IfSome, IfOk, OnOk};
+ghost use Rattle.std.specs.Result.{result_unwrap_or};
+ghost use Rattle.book_model.specs.Calls.{lacks_lines, Sound};
+ghost use Rattle.book_model.specs.JoiningLaws.{without_marks};
+ghost use Rattle.driver.specs.Reading.{stage_at, reading_of, AtStart, Running};
+ghost use Rattle.capital.specs.Files.{FileRead, NextRead, AnsweredOthers, AnsweredFiles, AnsweredWords, step_of};
+ghost use Rattle.capital.specs.Reads.{ReadsOn, Reached, EndsReading, Answered, SheetRead, output_of};
+ghost use Rattle.sheet_file.specs.NumberList.{numbers_of};
 ghost use Rattle.capital.specs.Arguments.{with_word, FilesNamed};
 
-use book_model::Book;
-use cell_report::Cells;
+use book_model::OpenBook;
 use driver::{Progress, Run};
-use house_index::Index;
 use loan_charge::charge::Exponentials;
-use loan_charge::credit::Rates;
-use marks::Marks;
-use sheet_file::{Numbers, Room};
+use sheet_file::Room;
 use std::env::{Env, FillError};
 use std::fs::{File, OpenOptions};
 use std::io;
@@ -41,144 +38,88 @@ const NAME: usize = 4096;
 // Room for the system's words for an error.
 const WORDS: usize = 256;
 
-// A run after a read of so many bytes. `more` where the input may go on, `failed` where a read failed.
+// A read failed.
 #[derive(Clone, Copy)]
-struct Turn {
-    run: Run,
-    count: usize,
-    more: bool,
-    failed: bool,
-}
+struct ReadFailed;
 
-// One read, and what it gave. Nothing more is read after a refusal, nor of a line that is already too long.
+// One read, and how many bytes it got.
 fn read_once(
     input: &mut impl Read,
-    run: Run,
+    run: &mut Run,
+    open_book: &mut OpenBook,
     exps: &Exponentials,
     sheet: &[u64],
-    rates: &mut Rates,
-    cells: &mut Cells,
-    index: &mut Index,
-    marks: &mut Marks,
     buf: &mut [u8],
-) -> Turn
-    requires { Running run rates.old cells.old index.old marks.old × (run.read + length buf.old ≤ 2 ^ 62) × (exps.now ≡ exponentials) }
-    ensures reading { ReadsOn (reading_of run sheet.now rates.old cells.old index.old marks.old)
-        (reading_of result.run sheet.now rates.new cells.new index.new marks.new) result.count buf.new }
-    ensures running { Running result.run rates.new cells.new index.new marks.new ×
-        (result.run.read ≡ run.read + result.count) }
-    ensures ends { EndsReading (reading_of result.run sheet.now rates.new cells.new index.new
-        marks.new) result.count
-        result.more result.failed }
+) -> Result<usize, ReadFailed>
+    requires { Running run.old open_book.old × (run.old.read + length buf.old ≤ 2 ^ 62) }
+    ensures reading { ReadsOn (reading_of run.old sheet.now open_book.old)
+        (reading_of run.new sheet.now open_book.new) (result_unwrap_or result 0) buf.new }
+    ensures running { Running run.new open_book.new × (run.new.read ≡ run.old.read + result_unwrap_or result 0) }
 {
     let Ok(n) = input.read(buf) else {
-        return Turn {
-            run,
-            count: 0,
-            more: false,
-            failed: true,
-        };
+        return Err(ReadFailed);
     };
-    let next = driver::step(run, exps, sheet, rates, cells, index, marks, &buf[0..n]);
-    let p = next.progress;
-    let more = (0 < n) & (p.refusal == 0) & (next.held <= line_forms::LONGEST_LINE);
-    Turn {
-        run: next,
-        count: n,
-        more,
-        failed: false,
-    }
+    driver::step(run, open_book, exps, sheet, &buf[0..n]);
+    Ok(n)
 }
 
-// Reads an input to its end.
+// Reads an input to its end, and tells how many bytes the last read got. Nothing more is read after a refusal, nor of a line that is already
+// too long.
 fn read_all(
     input: &mut impl Read,
+    run: &mut Run,
+    open_book: &mut OpenBook,
     exps: &Exponentials,
     sheet: &[u64],
-    rates: &mut Rates,
-    cells: &mut Cells,
-    index: &mut Index,
-    marks: &mut Marks,
-    buf: &mut [u8],
-) -> Turn
-    requires { (exps.now ≡ exponentials) × (length buf.old ≡ 65536) }
-    ensures reached { Reached sheet.now (reading_of result.run sheet.now rates.new cells.new index.new
-        marks.new)
-        result.run.read }
-    ensures running { Running result.run rates.new cells.new index.new marks.new × (result.run.read ≤ 2 ^ 62) }
-    ensures ends { EndsReading (reading_of result.run sheet.now rates.new cells.new index.new
-        marks.new) result.count false
-        result.failed }
+    buf: &mut [u8; READ],
+) -> Result<usize, ReadFailed>
+    requires { AtStart run.old open_book.old × Running run.old open_book.old × (run.old.read ≡ 0) }
+    ensures reached { Reached sheet.now (reading_of run.new sheet.now open_book.new) run.new.read }
+    ensures running { Running run.new open_book.new × (run.new.read ≤ 2 ^ 62) }
+    ensures ends { IfOk result (λ n. EndsReading (reading_of run.new sheet.now open_book.new) n false false) }
 {
-    let mut run = driver::start(rates, cells, index, marks);
     for _ in 0..MOST_READS {
-        let turn = read_once(input, run, exps, sheet, rates, cells, index, marks, buf);
-        if !turn.more {
-            return turn;
+        let n = read_once(input, run, open_book, exps, sheet, buf)?;
+        let more = (0 < n)
+            & run.progress.answer.is_ok()
+            & (run.tail.len() <= line_forms::LONGEST_LINE);
+        if !more {
+            return Ok(n);
         }
-        run = turn.run;
     }
-    Turn {
-        run,
-        count: 0,
-        more: false,
-        failed: true,
-    }
-}
-
-// How many bytes are to be written, and whether a read failed.
-#[derive(Clone, Copy)]
-struct Output {
-    count: usize,
-    failed: bool,
+    Err(ReadFailed)
 }
 
 // Reads a book to its end, under a sheet of factors, and leaves in the buffer what is to be printed of it, with the table of cells where it is
-// asked for.
-fn answer(rt: &HostRuntime, asked: bool, sheet: &[u64], out: &mut [u8]) -> Output
-    requires { report_size + cells_size ≤ length out.old }
-    ensures { Answered asked sheet.now out.old result out.new }
+// asked for. The result is how many bytes that is.
+fn answer(
+    rt: &HostRuntime,
+    asked: bool,
+    sheet: &[u64],
+    out: &mut [u8; OUT],
+) -> Result<usize, ReadFailed>
+    ensures { Answered asked sheet.now out.old (output_of result) out.new }
 {
     let exps = loan_charge::charge::table();
-    let mut rates = [0u64; loan_charge::credit::RATES];
-    let mut cells = [0u64; cell_report::PLACES];
-    let mut index = [0u64; house_index::PLACES];
-    let mut marks = marks::none();
+    let mut open_book = book::unopened();
+    let mut run = driver::start(&mut open_book);
     let mut buf = [0u8; READ];
-    let turn = read_all(
+    read_all(
         &mut rt.stdin(),
+        &mut run,
+        &mut open_book,
         &exps,
         sheet,
-        &mut rates,
-        &mut cells,
-        &mut index,
-        &mut marks,
         &mut buf,
-    );
-    if turn.failed {
-        return Output {
-            count: 0,
-            failed: true,
-        };
-    }
-    let run = turn.run;
-    let count = driver::finish(
-        run, &exps, sheet, &mut rates, &mut cells, &mut index, &mut marks, asked, out,
-    );
-    Output {
-        count,
-        failed: false,
-    }
+    )?;
+    Ok(driver::finish(&mut run, &mut open_book, &exps, sheet, asked, out))
 }
 
 // The bytes of this argument, put at the start of the buffer: none where there is no such argument, or one with more bytes.
 fn argument(rt: &HostRuntime, at: usize, buf: &mut [u8]) -> usize
     ensures { result ≤ length buf.new }
 {
-    match rt.arg(at, buf) {
-        Ok(n) => n,
-        Err(_) => 0,
-    }
+    rt.arg(at, buf).unwrap_or(0)
 }
 
 // How many arguments the program has, its name among them.
@@ -244,196 +185,88 @@ fn reason(error: &[u8]) -> &str {
     }
 }
 
-// What the lines of a file gave; `failed` where it could not be read to its end.
-#[derive(Clone, Copy)]
-struct Region {
-    progress: Progress,
-    failed: bool,
-}
-
 // Reads a book to its end.
 fn read_book(
     input: &mut impl Read,
+    open_book: &mut OpenBook,
     exps: &Exponentials,
     sheet: &[u64],
-    rates: &mut Rates,
-    cells: &mut Cells,
-    index: &mut Index,
-    marks: &mut Marks,
-    buf: &mut [u8],
-) -> Region
-    requires { (exps.now ≡ exponentials) × (length buf.old ≡ 65536) }
-    ensures read { FileRead sheet.now (stage_at result.progress sheet.now rates.new cells.new index.new
-        marks.new) result.failed }
-    ensures sound { Sound (state_at result.progress.book rates.new cells.new index.new marks.new) }
+    buf: &mut [u8; READ],
+) -> Result<Progress, ReadFailed>
+    ensures read { IfOk result (λ p. FileRead sheet.now (stage_at p sheet.now open_book.new)) }
+    ensures sound { OnOk result (Sound open_book.new) }
 {
-    let turn = read_all(input, exps, sheet, rates, cells, index, marks, buf);
-    let run = turn.run;
-    let progress = driver::end_input(run, exps, sheet, rates, cells, index, marks);
-    Region {
-        progress,
-        failed: turn.failed,
-    }
+    let mut run = driver::start(open_book);
+    read_all(input, &mut run, open_book, exps, sheet, buf)?;
+    Ok(driver::end_input(&mut run, open_book, exps, sheet))
 }
 
 // Reads the book of the file that is named by this argument to its end. Of a file that cannot be opened nothing is read.
 fn read_file(
     rt: &HostRuntime,
     file: usize,
+    open_book: &mut OpenBook,
     exps: &Exponentials,
     sheet: &[u64],
-    rates: &mut Rates,
-    cells: &mut Cells,
-    index: &mut Index,
-    marks: &mut Marks,
-    buf: &mut [u8],
-) -> Region
-    requires { (exps.now ≡ exponentials) × (length buf.old ≡ 65536) }
-    ensures read { FileRead sheet.now (stage_at result.progress sheet.now rates.new cells.new index.new
-        marks.new) result.failed }
-    ensures sound { Sound (state_at result.progress.book rates.new cells.new index.new marks.new) }
+    buf: &mut [u8; READ],
+) -> Result<Progress, ReadFailed>
+    ensures read { IfOk result (λ p. FileRead sheet.now (stage_at p sheet.now open_book.new)) }
+    ensures sound { OnOk result (Sound open_book.new) }
 {
-    match open(rt, file, "capital: opening a book") {
-        Some(mut book) => read_book(&mut book, exps, sheet, rates, cells, index, marks, buf),
-        None => {
-            let none = &mut io::empty();
-            let region = read_book(none, exps, sheet, rates, cells, index, marks, buf);
-            Region {
-                progress: region.progress,
-                failed: true,
-            }
-        }
-    }
+    let Some(mut book) = open(rt, file, "capital: opening a book") else {
+        return Err(ReadFailed);
+    };
+    read_book(&mut book, open_book, exps, sheet, buf)
 }
 
-// What one more file made of the book of those before it: `done` where something is to be printed, or a read failed.
-#[derive(Clone, Copy)]
-struct Step {
-    book: Book,
-    count: usize,
-    done: bool,
-    failed: bool,
-}
-
-// The book of one more file is joined to that of those before it, of which the tables are lent.
+// The book of one more file is joined to that of those before it. Where something is to be printed, the result is how many bytes.
 fn join_next(
     rt: &HostRuntime,
-    total: Book,
-    rates: &mut Rates,
-    cells: &mut Cells,
-    index: &mut Index,
+    total: &mut OpenBook,
     file: usize,
     number: u64,
     exps: &Exponentials,
     sheet: &[u64],
-    buf: &mut [u8],
+    buf: &mut [u8; READ],
     asked: bool,
-    out: &mut [u8],
-) -> Step
-    requires { Sound (state_at total rates.old cells.old index.old no_marks) × (exps.now ≡ exponentials) × (length buf.old ≡ 65536)
-        × (report_size + cells_size ≤ length out.old) }
-    ensures { NextRead asked sheet.now (state_at total rates.old cells.old index.old no_marks) number result
-        (state_at result.book rates.new cells.new index.new no_marks) out.old out.new }
+    out: &mut [u8; OUT],
+) -> Result<Option<usize>, ReadFailed>
+    requires { Sound (without_marks total.old) }
+    ensures { NextRead asked sheet.now (without_marks total.old) number (step_of result)
+        (without_marks total.new) out.old out.new }
 {
-    let mut own_rates = [0u64; loan_charge::credit::RATES];
-    let mut own_cells = [0u64; cell_report::PLACES];
-    let mut own_index = [0u64; house_index::PLACES];
-    let mut marks = marks::none();
-    let region = read_file(
-        rt,
-        file,
-        exps,
-        sheet,
-        &mut own_rates,
-        &mut own_cells,
-        &mut own_index,
-        &mut marks,
-        buf,
-    );
-    let progress = region.progress;
-    if region.failed {
-        return Step {
-            book: total,
-            count: 0,
-            done: true,
-            failed: true,
-        };
-    }
-    let mut new_rates = [0u64; loan_charge::credit::RATES];
-    let mut new_cells = [0u64; cell_report::PLACES];
-    let mut new_index = [0u64; house_index::PLACES];
-    let turn = regions::join_file(
-        total,
-        rates,
-        cells,
-        index,
-        progress,
-        &own_rates,
-        &own_cells,
-        &own_index,
-        &mut new_rates,
-        &mut new_cells,
-        &mut new_index,
-        &mut marks,
-        number,
-        asked,
-        out,
-    );
-    *rates = new_rates;
-    *cells = new_cells;
-    *index = new_index;
-    let book = turn.book;
-    Step {
-        book,
-        count: turn.length,
-        done: turn.done,
-        failed: false,
-    }
+    let mut own = book::unopened();
+    let p = read_file(rt, file, &mut own, exps, sheet, buf)?;
+    let mut joined = book::unopened();
+    let printed = regions::join_file(&mut joined, total, p, &own, number, asked, out);
+    *total = joined;
+    Ok(printed)
 }
 
-// The books of files from this argument on are joined in turn to that of the first, of which the tables are lent.
+// The books of files from this argument on are joined in turn to that of the first.
 fn join_all(
     rt: &HostRuntime,
-    first: Book,
-    rates: &mut Rates,
-    cells: &mut Cells,
-    index: &mut Index,
+    total: &mut OpenBook,
     from: usize,
     arguments: usize,
     exps: &Exponentials,
     sheet: &[u64],
-    buf: &mut [u8],
+    buf: &mut [u8; READ],
     asked: bool,
-    out: &mut [u8],
-) -> Output
-    requires { Sound (state_at first rates.old cells.old index.old no_marks) × (lacks_lines first.header first.sums.counts ≡ false)
-        × (2 ≤ from) × (from ≤ arguments) × (exps.now ≡ exponentials) × (length buf.old ≡ 65536) × (report_size + cells_size ≤ length out.old) }
-    ensures { AnsweredOthers asked sheet.now (state_at first rates.old cells.old index.old no_marks)
-        (arguments - from) out.old result out.new }
+    out: &mut [u8; OUT],
+) -> Result<usize, ReadFailed>
+    requires { Sound (without_marks total.old) × (lacks_lines total.old.book.header total.old.book.sums.counts ≡ false)
+        × (2 ≤ from) × (from ≤ arguments) }
+    ensures { AnsweredOthers asked sheet.now (without_marks total.old)
+        (arguments - from) out.old (output_of result) out.new }
 {
-    let mut total = first;
-    let mut file = from;
-    let mut number = 2;
-    while file < arguments {
-        let step = join_next(
-            rt, total, rates, cells, index, file, number, exps, sheet, buf, asked, out,
-        );
-        if step.done {
-            return Output {
-                count: step.count,
-                failed: step.failed,
-            };
+    for file in from..arguments {
+        let number = (file - from + 2) as u64;
+        if let Some(count) = join_next(rt, total, file, number, exps, sheet, buf, asked, out)? {
+            return Ok(count);
         }
-        let book = step.book;
-        total = book;
-        file += 1;
-        number += 1;
     }
-    let count = printing::put_answer(0, 2, total, cells, asked, out);
-    Output {
-        count,
-        failed: false,
-    }
+    Ok(printing::put_answer(Ok(()), 2, total, asked, out))
 }
 
 // Reads the books of the files from this argument on, joins them from the first on, and leaves in the buffer what is to be printed of them.
@@ -443,41 +276,21 @@ fn answer_files(
     arguments: usize,
     asked: bool,
     sheet: &[u64],
-    out: &mut [u8],
-) -> Output
-    requires { (1 ≤ from) × (from < arguments) × (report_size + cells_size ≤ length out.old) }
-    ensures { AnsweredFiles asked sheet.now (arguments - from) out.old result out.new }
+    out: &mut [u8; OUT],
+) -> Result<usize, ReadFailed>
+    requires { (1 ≤ from) × (from < arguments) }
+    ensures { AnsweredFiles asked sheet.now (arguments - from) out.old (output_of result) out.new }
 {
     let exps = loan_charge::charge::table();
-    let mut rates = [0u64; loan_charge::credit::RATES];
-    let mut cells = [0u64; cell_report::PLACES];
-    let mut index = [0u64; house_index::PLACES];
-    let mut marks = marks::none();
+    let mut first = book::unopened();
     let mut buf = [0u8; READ];
-    let region = read_file(
-        rt, from, &exps, sheet, &mut rates, &mut cells, &mut index, &mut marks, &mut buf,
-    );
-    if region.failed {
-        return Output {
-            count: 0,
-            failed: true,
-        };
-    }
-    let p = region.progress;
-    let first = p.book;
-    if !regions::reports(p) {
-        let count = printing::put_answer(p.refusal, p.number, first, &cells, asked, out);
-        return Output {
-            count,
-            failed: false,
-        };
+    let p = read_file(rt, from, &mut first, &exps, sheet, &mut buf)?;
+    if !regions::reports(p, &first) {
+        return Ok(printing::put_answer(p.answer, p.number, &first, asked, out));
     }
     join_all(
         rt,
-        first,
-        &mut rates,
-        &mut cells,
-        &mut index,
+        &mut first,
         from + 1,
         arguments,
         &exps,
@@ -494,15 +307,15 @@ fn answer_words(
     words: Words,
     arguments: usize,
     sheet: &[u64],
-    out: &mut [u8],
-) -> Output
-    requires { FilesNamed words arguments × (report_size + cells_size ≤ length out.old) }
-    ensures { AnsweredWords words arguments sheet.now out.old result out.new }
+    out: &mut [u8; OUT],
+) -> Result<usize, ReadFailed>
+    requires { FilesNamed words arguments }
+    ensures { AnsweredWords words arguments sheet.now out.old (output_of result) out.new }
 {
-    if words.files == 0 {
-        return answer(rt, words.cells, sheet, out);
+    match words.files {
+        None => answer(rt, words.cells, sheet, out),
+        Some(from) => answer_files(rt, from, arguments, words.cells, sheet, out),
     }
-    answer_files(rt, words.files, arguments, words.cells, sheet, out)
 }
 
 // Says it on standard error. Where that cannot be written either, there is nobody to tell.
@@ -515,22 +328,24 @@ fn print(rt: &HostRuntime, words: Words, arguments: usize, sheet: &[u64])
     requires { FilesNamed words arguments }
 {
     let mut out = [0u8; OUT];
-    let done = answer_words(rt, words, arguments, sheet, &mut out);
-    if done.failed {
-        if words.files == 0 {
-            say(rt, "capital: reading standard input failed");
-        } else {
-            say(rt, "capital: reading a book failed");
+    match answer_words(rt, words, arguments, sheet, &mut out) {
+        Ok(n) => {
+            if rt.write_all(&out[0..n]).is_err() {
+                say(rt, "capital: writing standard output failed");
+            }
         }
-        return;
-    }
-    let n = done.count;
-    if rt.write_all(&out[0..n]).is_err() {
-        say(rt, "capital: writing standard output failed");
+        Err(ReadFailed) => {
+            if words.files.is_none() {
+                say(rt, "capital: reading standard input failed");
+            } else {
+                say(rt, "capital: reading a book failed");
+            }
+        }
     }
 }
 
 // Reads until the buffer is full or the input ends; nothing where a read failed.
+// Kept: std's methods that read on grow a Vec or fail at an early end, and the program stands on no crate of the tests, which has this loop too.
 fn fill(input: &mut impl Read, buf: &mut [u8]) -> Option<usize>
     ensures { IfSome result (λ n. n ≤ length buf.new) }
 {
@@ -559,61 +374,48 @@ fn read_whole(input: &mut impl Read, buf: &mut [u8]) -> Option<usize>
     }
 }
 
-// The numbers of a file of credit factors, that is named by this argument. `good` where it could be read to its end and is a list of numbers; if not,
-// it is said why.
-fn read_sheet(rt: &HostRuntime, file: usize, out: &mut Room) -> Numbers
-    ensures read { SheetRead result out.new }
-    ensures few { result.count ≤ length out.new }
+// How many numbers a file of credit factors has, that is named by this argument: nothing where it could not be read to its end, or is no list of
+// numbers; it is said why.
+fn read_sheet(rt: &HostRuntime, file: usize, out: &mut Room) -> Option<usize>
+    ensures read { SheetRead (numbers_of result) out.new }
+    ensures few { IfSome result (λ n. n ≤ length out.new) }
 {
-    let Some(mut sheet) = open(rt, file, "capital: opening the sheet") else {
-        return no_numbers();
-    };
+    let mut sheet = open(rt, file, "capital: opening the sheet")?;
     let mut buf = [0u8; READ];
     let Some(n) = read_whole(&mut sheet, &mut buf) else {
         say(
             rt,
             "capital: the sheet could not be read, or is too long to be one",
         );
-        return no_numbers();
+        return None;
     };
-    let numbers = sheet_file::numbers_in(&buf[0..n], out);
-    if !numbers.good {
+    let count = sheet_file::numbers_in(&buf[0..n], out);
+    if count.is_none() {
         say(
             rt,
             "capital: the sheet is no list of whole numbers with one space or line end after each",
         );
     }
-    numbers
-}
-
-fn no_numbers() -> Numbers
-    ensures { (result.good ≡ false) × (result.count ≡ 0) }
-{
-    Numbers {
-        count: 0,
-        good: false,
-    }
+    count
 }
 
 // The same under the sheet of the file that is named by this argument.
-fn print_under(rt: &HostRuntime, words: Words, arguments: usize)
+fn print_under(rt: &HostRuntime, file: usize, words: Words, arguments: usize)
     requires { FilesNamed words arguments }
 {
     let mut room = [0u64; sheet_file::MOST];
-    let numbers = read_sheet(rt, words.sheet, &mut room);
-    if numbers.good {
-        let count = numbers.count;
+    if let Some(count) = read_sheet(rt, file, &mut room) {
         print(rt, words, arguments, &room[0..count]);
     }
 }
 
 // What the words after the program's name ask for: `next` is the first that is not yet understood, `sheet` the one that names a sheet and
-// `files` the first that names a book to be joined, 0 for none.
+// `files` the first that names a book to be joined.
 #[derive(Clone, Copy)]
 struct Words {
     cells: bool,
-    sheet: usize,
-    files: usize,
+    sheet: Option<usize>,
+    files: Option<usize>,
     next: usize,
 }
 
@@ -622,31 +424,28 @@ fn understood(words: Words, word: &[u8], more: bool) -> Words
     requires { words.next < 2 ^ 32 }
     ensures { result ≡ with_word words word.now more }
 {
-    if words.files != 0 {
+    if words.files.is_some() {
         return words;
     }
     if line_fields::same(word, b"cells") & !words.cells {
         return Words {
             cells: true,
-            sheet: words.sheet,
-            files: words.files,
             next: words.next + 1,
+            ..words
         };
     }
-    if line_fields::same(word, b"sheet") & (words.sheet == 0) & more {
+    if line_fields::same(word, b"sheet") & words.sheet.is_none() & more {
         return Words {
-            cells: words.cells,
-            sheet: words.next + 1,
-            files: words.files,
+            sheet: Some(words.next + 1),
             next: words.next + 2,
+            ..words
         };
     }
     if line_fields::same(word, b"join") & more {
         return Words {
-            cells: words.cells,
-            sheet: words.sheet,
-            files: words.next + 1,
+            files: Some(words.next + 1),
             next: words.next + 1,
+            ..words
         };
     }
     words
@@ -670,24 +469,22 @@ fn main(rt: HostRuntime) {
     let arguments = count_arguments(&rt);
     let none = Words {
         cells: false,
-        sheet: 0,
-        files: 0,
+        sheet: None,
+        files: None,
         next: 1,
     };
     let first = read_word(&rt, none, arguments);
     let second = read_word(&rt, first, arguments);
     let words = read_word(&rt, second, arguments);
-    if (words.files == 0) & (words.next < arguments) {
+    if words.files.is_none() & (words.next < arguments) {
         say(
             &rt,
             "capital: the words that can follow are cells, for the table of loans, sheet FILE, for credit factors of your own, and join FILE .., for books to be joined",
         );
         return;
     }
-    if words.sheet != 0 {
-        print_under(&rt, words, arguments);
-        return;
+    match words.sheet {
+        Some(file) => print_under(&rt, file, words, arguments),
+        None => print(&rt, words, arguments, &sheet::built_in()),
     }
-    let sheet = sheet::built_in();
-    print(&rt, words, arguments, &sheet);
 }

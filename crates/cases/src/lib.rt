@@ -1,215 +1,165 @@
-// Reads the cases of a test from standard input, and prints how they came out.
+// Reads the cases of a test from standard input, tries each, and prints how they came out.
 #![tactic(auto)]
 
-ghost use Rattle.std.specs.Prelude.{◌≡◌, ◌+◌, ◌<◌, ◌≤◌, length};
+ghost use Rattle.std.specs.Prelude.{◌≡◌, ◌+◌, ◌-◌, ◌%◌, ◌^◌, ◌<◌, ◌≤◌, ◌&&◌, length, if◌then◌else◌, IfOk, ℕ, slice_index};
+ghost use Rattle.cases.specs.Numbers.{number_in, after_number, after_numbers};
+ghost use Rattle.cases.specs.Trials.{range_in, is_at_most};
 
 use fixed_point::Signed;
+use std::io;
 use std::io::{Print, Read};
 
 // Room for a block of the input.
 pub const BLOCK: usize = 65536;
 
-// What was read: `count` bytes at the start of the buffer. `failed` where a read failed.
+// What is left of a block of cases.
 #[derive(Clone, Copy)]
-pub struct Input {
-    pub failed: bool,
-    pub count: usize,
+pub struct Cases<'a> {
+    pub rest: &'a [u8],
 }
 
-// A number of the input and the position after it.
-#[derive(Clone, Copy)]
-pub struct Number {
-    pub value: u64,
-    pub next: usize,
+impl<'a> Cases<'a> {
+    // The decimal number that comes next, which ends before the first byte that is no digit; that byte is passed too.
+    // 0 at the end of the input, and the largest number where it does not fit.
+    #[tactic(auto, using(crate::proofs::Numbers::shorter))]
+    pub fn number(&mut self) -> u64
+        ensures value { result ≡ number_in self.old.rest.now }
+        ensures passed { self.new.rest.now ≡ after_number self.old.rest.now }
+        ensures shorter { length self.new.rest.now ≤ length self.old.rest.now - 1 }
+    {
+        let mut value = 0u64;
+        while let Some((b, rest)) = self.rest.split_first() {
+            self.rest = rest;
+            if !b.is_ascii_digit() {
+                break;
+            }
+            value = value.saturating_mul(10).saturating_add((*b - b'0') as u64);
+        }
+        value
+    }
+
+    // So many numbers.
+    #[tactic(auto, using(crate::proofs::Numbers::shorter_by))]
+    pub fn numbers<const N: usize>(&mut self) -> [u64; N]
+        ensures values { (k : ℕ) → k < N → slice_index result k ≡ number_in (after_numbers k self.old.rest.now) }
+        ensures passed { self.new.rest.now ≡ after_numbers N self.old.rest.now }
+        ensures shorter { length self.new.rest.now ≤ length self.old.rest.now - N }
+    {
+        let mut numbers = [0; N];
+        for number in &mut numbers {
+            *number = self.number();
+        }
+        numbers
+    }
+
+    // Four numbers: what is above 0 and what is below, of the least and of the greatest number allowed.
+    pub fn range(&mut self) -> Range
+        ensures value { result ≡ range_in self.old.rest.now }
+        ensures passed { self.new.rest.now ≡ after_numbers 4 self.old.rest.now }
+        ensures shorter { length self.new.rest.now ≤ length self.old.rest.now - 4 }
+    {
+        let [a, b, c, d] = self.numbers::<4>();
+        Range {
+            least: Signed { plus: a, minus: b },
+            greatest: Signed { plus: c, minus: d },
+        }
+    }
 }
 
-// The least and the greatest number allowed, and the position after them.
+// The least and the greatest number allowed.
 #[derive(Clone, Copy)]
 pub struct Range {
     pub least: Signed,
     pub greatest: Signed,
-    pub next: Number,
 }
 
-// Whether a case came out as it should, and the position of the next.
-#[derive(Clone, Copy)]
-pub struct Tried {
-    pub ok: bool,
-    pub next: usize,
+impl Range {
+    pub fn holds(self, x: Signed) -> bool
+        ensures { result ≡ (is_at_most self.least x && is_at_most x self.greatest) }
+    {
+        is_at_most(self.least, x) & is_at_most(x, self.greatest)
+    }
+}
+
+// Whether x is at most y; false where a part of one reaches 2^62.
+fn is_at_most(x: Signed, y: Signed) -> bool
+    ensures { result ≡ is_at_most x y }
+{
+    let most = x.plus.max(x.minus).max(y.plus).max(y.minus);
+    most < 4611686018427387904 && x.plus + y.minus <= y.plus + x.minus
 }
 
 // How many cases came out as they should, and how many not.
-#[derive(Clone, Copy)]
+#[derive(Clone, Copy, Default)]
 pub struct Tally {
     pub within: u64,
     pub outside: u64,
 }
 
-// The tally so far, and whether the input goes on.
-#[derive(Clone, Copy)]
-pub struct Block {
-    pub more: bool,
-    pub tally: Tally,
-}
-
-// Before the first block of the input.
-pub fn first_block() -> Block {
-    Block {
-        more: true,
-        tally: Tally {
-            within: 0,
-            outside: 0,
-        },
+impl Tally {
+    // One case more.
+    pub fn count(&mut self, ok: bool)
+        ensures within { self.new.within ≡ (if ok then (self.old.within + 1) % 2 ^ 64 else self.old.within) }
+        ensures outside { self.new.outside ≡ (if ok then self.old.outside else (self.old.outside + 1) % 2 ^ 64) }
+    {
+        if ok {
+            self.within = self.within.wrapping_add(1);
+        } else {
+            self.outside = self.outside.wrapping_add(1);
+        }
     }
 }
 
-// One read into `buf`: no byte at the end of the input.
-fn read_once(input: &mut impl Read, buf: &mut [u8]) -> Input
-    ensures count_in_bounds { result.count ≤ length buf.old }
-    ensures buf_len_unchanged { length buf.new ≡ length buf.old }
-{
-    match input.read(buf) {
-        Ok(count) => Input {
-            failed: false,
-            count,
-        },
-        Err(_) => Input {
-            failed: true,
-            count: 0,
-        },
-    }
-}
-
-// The same into `buf` from `at` on.
-fn read_after(input: &mut impl Read, buf: &mut [u8], at: usize) -> Input
-    requires { at ≤ length buf.old }
-    ensures count_in_bounds { at + result.count ≤ length buf.old }
-    ensures buf_len_unchanged { length buf.new ≡ length buf.old }
-{
-    read_once(input, &mut buf[at..])
-}
-
-// Reads into `buf` until it is full or the input ends.
-pub fn read_input(input: &mut impl Read, buf: &mut [u8]) -> Input
-    ensures count_in_bounds { result.count ≤ length buf.new }
-    ensures buf_len_unchanged { length buf.new ≡ length buf.old }
+// Reads into `buf` until it is full or the input ends, and tells how many bytes it read.
+pub fn read_input(input: &mut impl Read, buf: &mut [u8]) -> io::Result<usize>
+    ensures count { IfOk result (λ n. n ≤ length buf.new) }
+    ensures room { length buf.new ≡ length buf.old }
 {
     let mut at = 0;
     while at < buf.len() {
-        let got = read_after(input, buf, at);
-        if got.failed {
-            return Input {
-                failed: true,
-                count: 0,
-            };
+        let count = input.read(&mut buf[at..])?;
+        if count == 0 {
+            break;
         }
-        if got.count == 0 {
-            return Input {
-                failed: false,
-                count: at,
-            };
+        at += count;
+    }
+    Ok(at)
+}
+
+// A test of cases. A trait and no closure, whose bound could not name a type that holds a reference; each trial takes a byte, so that all end.
+pub trait Trial {
+    // Takes a case from the front, and tells whether it came out as it should.
+    fn is_within(&self, cases: &mut Cases) -> bool
+        requires { 0 < length cases.old.rest.now }
+        ensures { length cases.new.rest.now < length cases.old.rest.now };
+}
+
+// Tries the cases of a block.
+fn try_block(block: &[u8], trial: &impl Trial, before: Tally) -> Tally {
+    let mut tally = before;
+    let mut cases = Cases { rest: block };
+    while !cases.rest.is_empty() {
+        tally.count(trial.is_within(&mut cases));
+    }
+    tally
+}
+
+// Tries the cases of the input, which is read by blocks, each of whole cases.
+// Nothing says that the input ends, so the blocks are counted, up to a number that no run uses up.
+pub fn try_all(input: &mut impl Read, out: &impl Print, trial: &impl Trial) -> Tally {
+    let mut tally = Tally::default();
+    for _ in 0..u64::MAX {
+        let mut buf = [0; BLOCK];
+        match read_input(input, &mut buf) {
+            Ok(0) => break,
+            Ok(count) => tally = try_block(&buf[..count], trial, tally),
+            Err(_) => {
+                put(out, b"read failed\n");
+                break;
+            }
         }
-        at = at + got.count;
     }
-    Input {
-        failed: false,
-        count: at,
-    }
-}
-
-fn wide(b: u8) -> u64 {
-    b as u64
-}
-
-// `value` with one more decimal digit; the largest number where it does not fit.
-fn with_digit(value: u64, digit: u64) -> u64
-    requires { digit < 10 }
-{
-    if (u64::MAX - digit) / 10 < value {
-        return u64::MAX;
-    }
-    value * 10 + digit
-}
-
-// The decimal number at `at`, which ends before the first byte that is no digit; that byte is passed too.
-pub fn number_at(s: &[u8], at: usize) -> Number
-    requires { at < length s.now }
-    ensures { (at < result.next) × (result.next ≤ length s.now) }
-{
-    let mut value = 0;
-    let mut i = at;
-    while i < s.len() {
-        let b = wide(s[i]);
-        i = i + 1;
-        if b < 48 {
-            return Number {
-                value: value,
-                next: i,
-            };
-        }
-        if 57 < b {
-            return Number {
-                value: value,
-                next: i,
-            };
-        }
-        value = with_digit(value, b - 48);
-    }
-    Number {
-        value: value,
-        next: i,
-    }
-}
-
-// The number after another; 0 at the end of the input.
-pub fn next_number(s: &[u8], before: Number) -> Number
-    requires { before.next ≤ length s.now }
-    ensures { (before.next ≤ result.next) × (result.next ≤ length s.now) }
-{
-    let at = before.next;
-    if at == s.len() {
-        return Number { value: 0, next: at };
-    }
-    number_at(s, at)
-}
-
-// Four numbers: what is above 0 and what is below, of the least and of the greatest number allowed.
-pub fn next_range(s: &[u8], before: Number) -> Range
-    requires { before.next ≤ length s.now }
-    ensures { (before.next ≤ result.next.next) × (result.next.next ≤ length s.now) }
-{
-    let a = next_number(s, before);
-    let b = next_number(s, a);
-    let c = next_number(s, b);
-    let d = next_number(s, c);
-    Range {
-        least: Signed {
-            plus: a.value,
-            minus: b.value,
-        },
-        greatest: Signed {
-            plus: c.value,
-            minus: d.value,
-        },
-        next: d,
-    }
-}
-
-// Whether x is at most y; false where a part of one reaches 2^62.
-pub fn at_most(x: Signed, y: Signed) -> bool {
-    if 4611686018427387904 <= x.plus {
-        return false;
-    }
-    if 4611686018427387904 <= x.minus {
-        return false;
-    }
-    if 4611686018427387904 <= y.plus {
-        return false;
-    }
-    if 4611686018427387904 <= y.minus {
-        return false;
-    }
-    x.plus + y.minus <= y.plus + x.minus
+    tally
 }
 
 // Prints the bytes. A test is judged by what it printed, so it goes on where nothing can be written.
@@ -230,21 +180,7 @@ pub fn print_unless(out: &impl Print, ok: bool, case: &[u8]) {
     }
 }
 
-// The tally with one case more.
-pub fn counted(t: Tally, ok: bool) -> Tally {
-    let mut next = t;
-    if ok {
-        next.within = std::num::wrapping_add_u64(t.within, 1);
-    } else {
-        next.outside = std::num::wrapping_add_u64(t.outside, 1);
-    }
-    next
-}
-
 // The last line of a test's output.
 pub fn print_tally(out: &impl Print, t: Tally) {
-    put_number(out, t.within);
-    put(out, b" within, ");
-    put_number(out, t.outside);
-    put(out, b" outside\n");
+    let _ = println!(out; "{} within, {} outside", t.within, t.outside);
 }

@@ -2,9 +2,8 @@
 -- Assumes nothing.
 use mathlib.Core.Path.{◌≡◌, refl, ap, ap₂}
 use mathlib.Core.List.{List, [], ◌∷◌, ◌++◌}
-use Prim.Native.Nat.{ℕ, zero, suc, ◌+◌, ◌*◌, ◌^◌, ◌≤◌, ◌<◌}
+use Prim.Native.Nat.{ℕ, zero, suc, ◌+◌, ◌-◌, ◌*◌, ◌^◌, ◌≤◌, ◌<◌}
 use native.Mathlib.Omega.{arith}
-use native.Mathlib.Numerals.{add-one}
 use lib.ListN.{length, get_or, length-append}
 use Rattle.exact.specs.Text.{text}
 use Rattle.report.specs.Decimal.{digits, signed}
@@ -13,10 +12,27 @@ use Rattle.report.proofs.Lines.{line-length, spaced-length}
 use Rattle.cell_report.specs.declared.Cell.{Cell}
 use Rattle.cell_report.specs.CellReport.{cell_line, cell_text, band_text, bands_text, cells_text, cell_at}
 
--- one band more
-pub bands-more : (at : ℕ → ℕ → Cell) (n : ℕ) → bands_text at (n + 1) ≡ bands_text at n ++ band_text at (n + 1)
+-- the lines of the first n columns of a band
+abbrev pub columns : (ℕ → ℕ → Cell) → (band n : ℕ) → List ℕ
+columns at band zero = []
+columns at band (suc n) = columns at band n ++ cell_text at band (suc n)
+
+-- the column n is added to those before it
+pub columns_more : (at : ℕ → ℕ → Cell) (band n : ℕ) → 1 ≤ n → columns at band (n + 1 - 1) ≡ columns at band (n - 1) ++ cell_text at band n
+columns_more at band zero h = absurd (omega arith)
+columns_more at band (suc n) h =
+    let after : suc n + 1 - 1 ≡ suc n = omega arith in
+    let before : suc n - 1 ≡ n = omega arith in
+    rw (after, before) refl
+
+-- the band n is added to those before it
+pub bands_more : (at : ℕ → ℕ → Cell) (n : ℕ) → 1 ≤ n → bands_text at (n + 1 - 1) ≡ bands_text at (n - 1) ++ band_text at n
 unfolding bands_text
-bands-more at n = rw (add-one n) refl
+bands_more at zero h = absurd (omega arith)
+bands_more at (suc n) h =
+    let after : suc n + 1 - 1 ≡ suc n = omega arith in
+    let before : suc n - 1 ≡ n = omega arith in
+    rw (after, before) refl
 
 -- Only the 60 cells matter.
 
@@ -41,7 +57,7 @@ cells-alike same = bands-alike 12 same
 
 -- Numbers of 64 bits: the longest text fits the least buffer.
 
-line-most :
+pub line-most :
     (band ltv : ℕ) (c : Cell) →
     band < 2 ^ 64 →
     ltv < 2 ^ 64 →

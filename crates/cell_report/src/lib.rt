@@ -1,15 +1,17 @@
 // The table of loans by score and loan-to-value as 60 lines (02, L1), each written to what remains of the lent buffer.
 #![tactic(auto)]
 
-ghost use Rattle.std.specs.Prelude.{◌≡◌, ◌+◌, ◌≤◌, length};
-ghost use Rattle.report.specs.Line.{Written, Added};
-ghost use Rattle.cell_report.specs.CellReport.{cell_line, cell_text, band_text, cells_text, cell_at};
+ghost use Rattle.std.specs.Prelude.{◌≡◌, ◌≤◌, length};
+ghost use Rattle.report.specs.Line.{Written};
+ghost use Rattle.cell_report.specs.CellReport.{cell_line, band_text, cells_text, cell_at};
 
 use fixed_point::Signed;
+use report::Field;
 
 // How many places a table of cells has: four for each of 60 cells.
 pub const PLACES: usize = 240;
 
+// Kept: the definitions cell_at here, and with_cell and cells_with of book_model, speak of the 240 numbers by their places.
 pub type Cells = [u64; PLACES];
 
 // The loans of a cell: how many, and the sums of their balances and charges.
@@ -41,24 +43,14 @@ fn put_cell(out: &mut [u8], band: u64, ltv: u64, cell: Cell) -> usize
     ensures line { Written out.old (cell_line band ltv cell) result out.new }
     ensures short { result ≤ 117 }
 {
-    let charge = cell.charge;
-    let named = report::put_bytes(out, b"(cell");
-    let one = report::add_number(out, named, band);
-    let two = report::add_number(out, one, ltv);
-    let three = report::add_number(out, two, cell.count);
-    let four = report::add_number(out, three, cell.balance);
-    let five = report::add_value(out, four, charge);
-    five + report::put_bytes(&mut out[five..], b")\n")
-}
-
-// The line of a table's cell after the first `at` bytes.
-fn add_cell(out: &mut [u8], at: usize, cells: &Cells, band: u64, ltv: u64) -> usize
-    requires { (at + 117 ≤ length out.old) × (1 ≤ band) × (band ≤ 12) × (1 ≤ ltv) × (ltv ≤ 5) }
-    ensures line { Added out.old at (cell_text (cell_at cells.now) band ltv) result out.new }
-    ensures short { result ≤ at + 117 }
-{
-    let cell = cell_at(cells, band, ltv);
-    at + put_cell(&mut out[at..], band, ltv, cell)
+    let fields = [
+        Field::Count(band),
+        Field::Count(ltv),
+        Field::Count(cell.count),
+        Field::Count(cell.balance),
+        Field::Number(cell.charge),
+    ];
+    report::put_line(out, b"cell", &fields)
 }
 
 // The lines of a band.
@@ -67,11 +59,11 @@ fn put_band(out: &mut [u8], cells: &Cells, band: u64) -> usize
     ensures lines { Written out.old (band_text (cell_at cells.now) band) result out.new }
     ensures short { result ≤ 585 }
 {
-    let one = add_cell(out, 0, cells, band, 1);
-    let two = add_cell(out, one, cells, band, 2);
-    let three = add_cell(out, two, cells, band, 3);
-    let four = add_cell(out, three, cells, band, 4);
-    add_cell(out, four, cells, band, 5)
+    let mut at = 0;
+    for ltv in 1..=5 {
+        at += put_cell(&mut out[at..], band, ltv, cell_at(cells, band, ltv));
+    }
+    at
 }
 
 // All lines, band after band.
@@ -80,10 +72,8 @@ pub fn put_cells(out: &mut [u8], cells: &Cells) -> usize
     ensures { Written out.old (cells_text (cell_at cells.now)) result out.new }
 {
     let mut at = 0;
-    let mut bands = 0;
-    while bands < 12 {
-        bands += 1;
-        at += put_band(&mut out[at..], cells, bands);
+    for band in 1..=12 {
+        at += put_band(&mut out[at..], cells, band);
     }
     at
 }

@@ -4,20 +4,13 @@
 ghost use Rattle.std.specs.Prelude.{◌≡◌, ◌+◌, ◌*◌, ◌≤◌, ◌<◌, ◌^◌, ltb, get_or};
 ghost use Rattle.exact.specs.Choice.{pick};
 ghost use Rattle.cell_report.specs.CellReport.{place_of};
-ghost use Rattle.book_model.specs.Cells.{band_of, ltv_of, loan_band, ltv_with, add_at_lem, with_cell, empty_cells, CellsBounded};
+ghost use Rattle.book_model.specs.Cells.{band_of, ltv_of, loan_band, ltv_with, add_at_lem, with_cell, CellsBounded};
 ghost use Rattle.book_model.specs.Ranges.{LoanRanges, AdjustmentRanges, CellRanges};
 
 use book_model::Adjustment;
 use cell_report::{Cell, Cells};
 use line_forms::Loan;
 use loan_charge::Score;
-
-// No loan in any cell.
-pub fn clear(cells: &mut Cells)
-    ensures { cells.new ≡ empty_cells }
-{
-    *cells = [0; cell_report::PLACES];
-}
 
 // The band of a score, counted from 0.
 fn score_band(score: Score) -> usize
@@ -33,7 +26,7 @@ fn score_band(score: Score) -> usize
 fn exceeds(x: u64, limit: u64) -> usize
     ensures { (result ≡ pick (ltb limit x) 1 0) × (result ≤ 1) }
 {
-    if limit < x { 1 } else { 0 }
+    usize::from(limit < x)
 }
 
 // The column of balance over value, counted from 0, where value over balance is p / q: with no quotient, so that a limit is met exactly.
@@ -50,10 +43,9 @@ pub fn place_of(l: Loan, a: Adjustment) -> usize
     requires { LoanRanges l × AdjustmentRanges a }
     ensures { (result ≡ place_of (loan_band l) (ltv_with a l)) × (result ≤ 236) }
 {
-    let score = l.score;
     let p = l.value * a.last;
     let q = l.balance * a.own;
-    (score_band(score) * 5 + ltv_column(p, q)) * 4
+    (score_band(l.score) * 5 + ltv_column(p, q)) * 4
 }
 
 fn add_at(cells: &mut Cells, at: usize, x: u64)
@@ -68,9 +60,8 @@ pub fn add_cell(cells: &mut Cells, place: usize, x: Cell)
     requires { (place ≤ 236) × CellsBounded cells.old 4000000 × CellRanges x }
     ensures { cells.new ≡ with_cell cells.old place x }
 {
-    let charge = x.charge;
     add_at(cells, place, x.count);
     add_at(cells, place + 1, x.balance);
-    add_at(cells, place + 2, charge.plus);
-    add_at(cells, place + 3, charge.minus);
+    add_at(cells, place + 2, x.charge.plus);
+    add_at(cells, place + 3, x.charge.minus);
 }

@@ -9,24 +9,30 @@ use lib.Dec.{eqb, ltb}
 use lib.ListN.{length, take, drop, get_or, length-take, length-drop}
 use lib.Seq.{take-suc, take_all, length-take-le, take-add}
 use borrow.Author.Tests.{eq-eqb, ltb-true, ltb-false}
+use Rattle.std.specs.Prelude.{Err}
 use Rattle.line_bytes.specs.LineBytes.{index_of}
 use Rattle.line_forms.specs.declared.Line.TheVariants.{Refusal}
-use Rattle.line_forms.specs.declared.HeaderLine.TheVariants.{Refusal as HeaderRefusal}
+use Rattle.line_forms.specs.declared.refusal.Refusal.TheVariants.{LongLine}
 use Rattle.line_forms.specs.Readings.{line_of, header_of}
 use Rattle.line_forms.proofs.HeaderLaws.{header_reading, refused-header}
 use Rattle.line_forms.proofs.LineLaws.{line_reading, refused-line}
+use Rattle.line_forms.proofs.Refusals.{refusal_numbers}
 use Rattle.line_bytes.specs.LineBytes.{newline, unbroken, with_tail}
 use Rattle.line_bytes.proofs.FirstNewline.{index-unbroken, index_at}
-use Rattle.line_bytes.proofs.Tail.{tail-tail, tail_none}
+use Rattle.line_bytes.proofs.Held.{tail-tail, tail_none}
 use Rattle.driver.specs.Reading.{Stage, Reading, with_line, with_byte, with_bytes}
 
 -- Of a line over 240 bytes the first 241 read the same.
 
-pub long-line : (s : List ℕ) → 240 < length s → line_of s ≡ Refusal 1
-long-line s h = refused-line (line_of s) 1 ((line_reading s).refused1.1 h) (λ z. omega (arith, z))
+pub long-line : (s : List ℕ) → 240 < length s → line_of s ≡ Refusal LongLine
+long-line s h =
+    let (q, e, n) = refused-line (line_of s) 1 ((line_reading s).refused1.1 h) (λ z. omega (arith, z)) in
+    e ∙ ap Refusal (refusal_numbers.same q LongLine n)
 
-pub long-header : (s : List ℕ) → 240 < length s → header_of s ≡ HeaderRefusal 1
-long-header s h = refused-header (header_of s) 1 ((header_reading s).refused1.1 h) (λ z. omega (arith, z))
+pub long-header : (s : List ℕ) → 240 < length s → header_of s ≡ Err LongLine
+long-header s h =
+    let (q, e, n) = refused-header (header_of s) 1 ((header_reading s).refused1.1 h) (λ z. omega (arith, z)) in
+    e ∙ (λ i. Err (refusal_numbers.same q LongLine n i))
 
 pub long_same : (p : Stage) (s t : List ℕ) → 240 < length s → 240 < length t → with_line p s ≡ with_line p t
 unfolding with_line

@@ -12,12 +12,13 @@ use borrow.Author.Tests.{eqb-true, eqb-false}
 use Rattle.exact.specs.Choice.{pick}
 use Rattle.report.specs.Line.{refusal_line}
 use Rattle.line_forms.specs.declared.Line.TheVariants.{Refusal}
+use Rattle.line_forms.specs.declared.refusal.Refusal.TheVariants.{LongLine}
 use Rattle.book_model.specs.Accepted.{refusal_for}
 use Rattle.book_model.specs.Calls.{State, Answer, opening_for, opening, feeding_line, feeding}
 use Rattle.book_model.specs.LineKinds.{content_kind}
 use Rattle.book_model.proofs.Openings.{number, header-fails}
 use Rattle.line_bytes.specs.LineBytes.{newline, with_tail}
-use Rattle.line_bytes.proofs.Tail.{take-front}
+use Rattle.line_bytes.proofs.Held.{take-front}
 use Rattle.printing.proofs.Answers.{printed-refused, printed-empty, printed-end}
 use Rattle.driver.specs.Program.{Settled}
 use Rattle.driver.specs.Reading.{Stage, Reading, at_start, from_start, after, with_line, with_byte, with_bytes}
@@ -143,8 +144,8 @@ long-refused p line h = go (eqb p.refusal 0) refl (eqb p.number 1)
   where
     go : (a : Bool) → eqb p.refusal 0 ≡ a → (b : Bool) →
         (pick {A = Stage} a (after (pick b (opening p.sheet line) (feeding p.state line)) p.number p.sheet) p).refusal ≡ 0 → ⊥
-    go true f true e = omega (arith, sym (number (ap (opening_for p.sheet) (long-header line h) ∙ header-fails p.sheet 1)) ∙ e)
-    go true f false e = let k : (feeding_line p.state (Refusal 1)).refusal ≡ 0 = rw (long-line line h) at e in omega (arith, k)
+    go true f true e = omega (arith, sym (number (ap (opening_for p.sheet) (long-header line h) ∙ header-fails p.sheet LongLine)) ∙ e)
+    go true f false e = let k : (feeding_line p.state (Refusal LongLine)).refusal ≡ 0 = rw (long-line line h) at e in omega (arith, k)
     go false f b e = eqb-false p.refusal 0 f e
 
 ended-long : (p : Stage) (line : List ℕ) → 240 < length line → ended_with p line ≡ with_line p line

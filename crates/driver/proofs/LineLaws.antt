@@ -1,21 +1,20 @@
 -- A line more: what reading it gives, that the book stays sound and that the line number grows by at most 1. Assumes nothing.
 use mathlib.Core.Path.{◌≡◌, refl, sym, ◌∙◌, ap, subst}
-use mathlib.Core.Bool.{Bool, true, false}
+use mathlib.Core.Bool.{Bool, true, false, true≢false, false≢true}
 use mathlib.Core.List.{List}
 use Prim.Native.Nat.{ℕ, ◌+◌, ◌≤◌}
 use native.Mathlib.Omega.{arith}
 use lib.Dec.{eqb}
 use borrow.Author.Tests.{eq-eqb, ne_eqb, eqb-true, eqb-false}
+use Rattle.std.specs.Prelude.{Result, Ok, Err, is_ok}
+use Rattle.std.specs.Result.{is_err}
 use Rattle.exact.specs.Choice.{pick}
-use Rattle.line_forms.specs.Readings.{line_of}
-use Rattle.book_model.specs.declared.Book.{Book}
-use Rattle.book_model.specs.declared.Fed.{Fed}
-use Rattle.book_model.specs.declared.Opened.{Opened}
-use Rattle.book_model.specs.Calls.{Answer, state_at, opened_of, fed_of, opening, feeding, Sound}
+use Rattle.line_forms.specs.declared.refusal.Refusal.{Refusal}
+use Rattle.line_forms.specs.Refusals.{number_of}
+use Rattle.line_forms.proofs.Refusals.{number-some}
+use Rattle.book_model.specs.Calls.{State, Answer, told, opening, feeding, Sound}
 use Rattle.book_model.proofs.Demand1.{demand1}
-use Rattle.book_model.proofs.Feeding.{rates-kept}
-use Rattle.driver.specs.declared.Progress.{Progress}
-use Rattle.driver.specs.Reading.{Stage, after, with_line, stage_at, progress_after}
+use Rattle.driver.specs.Reading.{Stage, after, with_line}
 
 pub line_refused : (p : Stage) (line : List ℕ) → (p.refusal ≡ 0 → ⊥) → p ≡ with_line p line
 unfolding with_line
@@ -56,16 +55,19 @@ line-number p line =
     by_cases (λ (q : Stage). q.number ≤ p.number + 1) p line (omega arith) (next-number (opening p.sheet line) p.number p.sheet)
     (next-number (feeding p.state line) p.number p.sheet)
 
--- What the code's answers stand for
+-- what an answer's number tells
+pub told-err : (r : Result Unit Refusal) → is_err r ≡ true → told r ≡ 0 → ⊥
+told-err (Ok x) e z = absurd (false≢true e)
+told-err (Err q) e z = number-some q z
 
--- the stage of a progress that an answer gave
-answer-stage : (a : Answer) (number : ℕ) {n : ℕ} {b : Book} {q : Progress} (sheet rates cells index : List ℕ)
-    (marks : List (List ℕ)) → q ≡ progress_after n number b →
-    n ≡ a.refusal → b ≡ a.state.book → rates ≡ a.state.rates → cells ≡ a.state.cells → index ≡ a.state.index → marks ≡ a.state.marks →
-    stage_at q sheet rates cells index marks ≡ after a number sheet
-answer-stage a number {n} {b} {q} sheet rates cells index marks p e f g h k m =
-    ap (λ (x : Progress). stage_at x sheet rates cells index marks) p
-    ∙ (λ i. record { refusal = e i; number = pick (eqb (e i) 0) (number + 1) number; sheet = sheet; state = state_at (f i) (g i) (h i) (k i) (m i) })
+pub told-ok : (r : Result Unit Refusal) → is_err r ≡ false → told r ≡ 0
+told-ok (Ok x) e = refl
+told-ok (Err q) e = absurd (true≢false e)
+
+-- the number after an answer
+pub number-after : (r : Result Unit Refusal) (n : ℕ) → pick (is_ok r) (n + 1) n ≡ pick (eqb (told r) 0) (n + 1) n
+number-after (Ok x) n = refl
+number-after (Err q) n = rw (ne_eqb (number_of q) 0 (number-some q)) refl
 
 -- What end_line ensures: q is the stage it gives.
 abbrev pub Ended : Stage → List ℕ → Stage → Type 0
@@ -80,34 +82,16 @@ ended_by p line q h e = (
   ),
 )
 
--- q is the progress that it gives, and the tables are as the call left them
-module _ (p : Progress) (sheet rates cells index : List ℕ) (marks : List (List ℕ)) (line : List ℕ)
-    (sound : Sound (state_at p.book rates cells index marks)) where
-  pub ended-refused : (p.refusal ≡ 0 → ⊥) → Ended (stage_at p sheet rates cells index marks) line (stage_at p sheet rates cells index marks)
-  ended-refused h =
-      ended_by (stage_at p sheet rates cells index marks) line (stage_at p sheet rates cells index marks) sound
-      (line_refused (stage_at p sheet rates cells index marks) line h)
+module _ (p : Stage) (line : List ℕ) (sound : Sound p.state) where
+  pub ended-refused : (p.refusal ≡ 0 → ⊥) → Ended p line p
+  ended-refused h = ended_by p line p sound (line_refused p line h)
 
-  pub ended-opened : (o : Opened) (q : Progress) (after-rates after-cells after-index : List ℕ) (after-marks : List (List ℕ)) → p.refusal ≡ 0 → p.number ≡ 1 →
-      o ≡ opened_of (opening sheet line) → after-rates ≡ (opening sheet line).state.rates → after-cells ≡ (opening sheet line).state.cells →
-      after-index ≡ (opening sheet line).state.index → after-marks ≡ (opening sheet line).state.marks →
-      q ≡ progress_after o.refusal p.number o.book →
-      Ended (stage_at p sheet rates cells index marks) line (stage_at q sheet after-rates after-cells after-index after-marks)
-  ended-opened o q after-rates after-cells after-index after-marks e f g m k n j h =
-      ended_by (stage_at p sheet rates cells index marks) line (stage_at q sheet after-rates after-cells after-index after-marks) sound
-      (answer-stage (opening sheet line) p.number sheet after-rates after-cells after-index after-marks h (ap (λ (x : Opened). x.refusal) g)
-      (ap (λ (x : Opened). x.book) g) m k n j
-      ∙ line-opens (stage_at p sheet rates cells index marks) line e f)
-
-  pub ended-fed : (o : Fed) (q : Progress) (after-cells after-index : List ℕ) (after-marks : List (List ℕ)) → p.refusal ≡ 0 → (p.number ≡ 1 → ⊥) →
-      o ≡ fed_of (feeding (state_at p.book rates cells index marks) line) →
-      after-cells ≡ (feeding (state_at p.book rates cells index marks) line).state.cells →
-      after-index ≡ (feeding (state_at p.book rates cells index marks) line).state.index →
-      after-marks ≡ (feeding (state_at p.book rates cells index marks) line).state.marks →
-      q ≡ progress_after o.refusal p.number o.book →
-      Ended (stage_at p sheet rates cells index marks) line (stage_at q sheet rates after-cells after-index after-marks)
-  ended-fed o q after-cells after-index after-marks e f g k n j h =
-      ended_by (stage_at p sheet rates cells index marks) line (stage_at q sheet rates after-cells after-index after-marks) sound
-      (answer-stage (feeding (state_at p.book rates cells index marks) line) p.number sheet rates after-cells after-index after-marks h
-      (ap (λ (x : Fed). x.refusal) g) (ap (λ (x : Fed). x.book) g) (sym (rates-kept (state_at p.book rates cells index marks) (line_of line))) k n j
-      ∙ line-fed (stage_at p sheet rates cells index marks) line e f)
+  -- The answer to the line, as the first or as one that is fed, and the number after it.
+  pub ended-answered : p.refusal ≡ 0 → {n number : ℕ} {s : State} →
+      record { refusal = n; state = s } ≡ pick (eqb p.number 1) (opening p.sheet line) (feeding p.state line) →
+      number ≡ pick (eqb n 0) (p.number + 1) p.number → Ended p line (record { refusal = n; number = number; sheet = p.sheet; state = s })
+  unfolding with_line
+  ended-answered e {n} {number} {s} f g =
+      ended_by p line (record { refusal = n; number = number; sheet = p.sheet; state = s }) sound
+      ((λ i. record { refusal = n; number = g i; sheet = p.sheet; state = s })
+      ∙ ap (λ (a : Answer). after a p.number p.sheet) f ∙ rw (eq-eqb p.refusal 0 e) refl)

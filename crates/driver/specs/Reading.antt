@@ -1,10 +1,9 @@
 -- Reading a book from an input of bytes, as one function of a byte after the other: so it does not matter where reads cut the input.
-use Rattle.std.specs.Prelude.{ℕ, ◌+◌, ◌≤◌, ◌≡◌, true, List, [], ◌∷◌, eqb, length, take}
+use Rattle.std.specs.Prelude.{ℕ, ◌+◌, ◌≤◌, ◌≡◌, true, List, [], ◌∷◌, eqb}
 use Rattle.exact.specs.Choice.{pick}
-use Rattle.book_model.specs.declared.Book.{Book}
-use Rattle.book_model.specs.Calls.{State, Answer, state_at, empty_state, opening, feeding, Sound}
+use Rattle.book_model.specs.Calls.{State, Answer, told, empty_state, opening, feeding, Sound}
 use Rattle.book_model.specs.Terms.{refused_terms}
-use Rattle.line_bytes.specs.LineBytes.{newline, unbroken, most_held, with_tail}
+use Rattle.line_bytes.specs.LineBytes.{newline, unbroken, with_tail}
 use Rattle.driver.specs.declared.Progress.{Progress}
 use Rattle.driver.specs.declared.Run.{Run}
 
@@ -49,25 +48,20 @@ unfoldable pub with_bytes : Reading → List ℕ → Reading
 with_bytes s [] = s
 with_bytes s (byte ∷ bytes) = with_bytes (with_byte s byte) bytes
 
--- The code's structs: what they stand for, with the tables lent beside them.
+-- The code's structs: what they stand for, with the open book lent beside them.
 
-abbrev pub stage_at : Progress → (sheet rates cells index : List ℕ) → (marks : List (List ℕ)) → Stage
-stage_at p sheet rates cells index marks = record { refusal = p.refusal; number = p.number; sheet = sheet; state = state_at p.book rates cells index marks }
+abbrev pub stage_at : Progress → (sheet : List ℕ) → State → Stage
+stage_at p sheet s = record { refusal = told p.answer; number = p.number; sheet = sheet; state = s }
 
-abbrev pub progress_after : (refusal number : ℕ) → Book → Progress
-progress_after refusal number b = record { refusal = refusal; number = pick (eqb refusal 0) (number + 1) number; book = b }
-
-abbrev pub reading_of : Run → (sheet rates cells index : List ℕ) → (marks : List (List ℕ)) → Reading
-reading_of r sheet rates cells index marks = record { stage = stage_at r.progress sheet rates cells index marks; tail = take r.held r.tail }
+abbrev pub reading_of : Run → (sheet : List ℕ) → State → Reading
+reading_of r sheet s = record { stage = stage_at r.progress sheet s; tail = r.tail }
 
 -- It is at the start, whatever sheet the first line will open a book under.
-abbrev pub AtStart : Run → (rates cells index : List ℕ) → (marks : List (List ℕ)) → Type 0
-AtStart r rates cells index marks = (sheet : List ℕ) → reading_of r sheet rates cells index marks ≡ from_start sheet
+abbrev pub AtStart : Run → State → Type 0
+AtStart r s = (sheet : List ℕ) → reading_of r sheet s ≡ from_start sheet
 
 -- What every run assures: its book is sound, each line read had a byte that ended it, and no byte that is held ends a line.
-pub record Running (r : Run) (rates cells index : List ℕ) (marks : List (List ℕ)) : Type 0 where
-  pub sound : Sound (state_at r.progress.book rates cells index marks)
+pub record Running (r : Run) (s : State) : Type 0 where
+  pub sound : Sound s
   pub number : r.progress.number ≤ 1 + r.read
-  pub held : r.held ≤ most_held
-  pub room : length r.tail ≡ 242
-  pub unended : unbroken (take r.held r.tail) ≡ true
+  pub unended : unbroken r.tail ≡ true

@@ -1,335 +1,230 @@
 // The program's work: lines of an input that comes in parts, and what is printed of it. Only the reads and the write are left to the program.
 #![tactic(auto)]
 
-ghost use Rattle.std.specs.Prelude.{◌≡◌, true, [], ◌+◌, ◌^◌, ◌≤◌, ◌<◌, length, take, drop};
-ghost use Rattle.loan_charge.specs.Tables.{exponentials};
+ghost use Rattle.std.specs.Prelude.{◌≡◌, true, [], ◌+◌, ◌^◌, ◌≤◌, ◌<◌, eqb, length, take, drop};
+ghost use Rattle.exact.specs.Choice.{pick};
 ghost use Rattle.report.specs.Line.{Written};
-ghost use Rattle.book_model.specs.Calls.{state_at, report_size, cells_size, Sound};
-ghost use Rattle.line_bytes.specs.LineBytes.{unbroken, most_held};
-ghost use Rattle.driver.specs.Reading.{with_line, with_bytes, progress_after, stage_at, reading_of, AtStart, Running};
+ghost use Rattle.book_model.specs.Calls.{answered, opening, feeding, report_size, cells_size, Sound};
+ghost use Rattle.line_bytes.specs.LineBytes.{unbroken};
+ghost use Rattle.driver.specs.Reading.{with_line, with_bytes, stage_at, reading_of, AtStart, Running};
 ghost use Rattle.driver.specs.Printed.{printed_for, ended, PrintsWhole};
 
-use book_model::Book;
-use cell_report::Cells;
-use house_index::Index;
+use book_model::OpenBook;
 use line_bytes::Tail;
+use line_forms::Refusal;
 use loan_charge::charge::Exponentials;
-use loan_charge::credit::Rates;
-use marks::Marks;
 
-// What the lines read so far gave: the refusal, 0 for none, the number of the line to be read or of the refused one, and the book.
+// What the lines read so far gave: the answer to the last of them, and the number of the line to be read or of the refused one.
 #[derive(Clone, Copy)]
 pub struct Progress {
-    pub refusal: u64,
+    pub answer: Result<(), Refusal>,
     pub number: u64,
-    pub book: Book,
 }
 
-// A run between two parts of the input: `held` counts the bytes of a line not yet ended, at the start of `tail`, and `read` all bytes
-// read so far.
-#[derive(Clone, Copy)]
+// A run between two parts of the input: `tail` holds the bytes of a line not yet ended, and `read` counts all bytes read so far.
+#[derive(Drop)]
 pub struct Run {
     pub progress: Progress,
-    pub held: usize,
     pub tail: Tail,
     pub read: usize,
 }
 
-fn no_bytes() -> Tail
-    ensures { length result ≡ 242 }
-{
-    [0; line_bytes::TAIL]
-}
-
 // Before any byte is read: what stands is the value of a refused opening.
-pub fn start(rates: &mut Rates, cells: &mut Cells, index: &mut Index, marks: &mut Marks) -> Run
-    ensures equation { AtStart result rates.new cells.new index.new marks.new }
-    ensures running { Running result rates.new cells.new index.new marks.new }
+pub fn start(open_book: &mut OpenBook) -> Run
+    ensures equation { AtStart result open_book.new }
+    ensures running { Running result open_book.new }
     ensures none { result.read ≡ 0 }
 {
-    *rates = sheet::built_in_rates();
-    cells::clear(cells);
-    house_index::clear(index);
-    marks::clear(marks);
+    book::reset(open_book);
     Run {
         progress: Progress {
-            refusal: 0,
+            answer: Ok(()),
             number: 1,
-            book: book_model::refused(),
         },
-        held: 0,
-        tail: no_bytes(),
+        tail: Tail::new(),
         read: 0,
     }
 }
 
-// After a line of this number that got this refusal and book.
-fn answered(refusal: u64, number: u64, book: Book) -> Progress
-    requires { number < 2 ^ 63 }
-    ensures { result ≡ progress_after refusal number book }
+// The first line opens a book, any other is fed to it.
+fn answer_to(
+    number: u64,
+    open_book: &mut OpenBook,
+    exps: &Exponentials,
+    sheet: &[u64],
+    line: &[u8],
+) -> Result<(), Refusal>
+    requires { Sound open_book.old }
+    ensures { answered result open_book.new ≡ pick (eqb number 1) (opening sheet.now line.now) (feeding open_book.old line.now) }
 {
-    let next = if refusal == 0 { number + 1 } else { number };
-    Progress {
-        refusal,
-        number: next,
-        book,
+    if number == 1 {
+        book::open_sheet(open_book, line, sheet)
+    } else {
+        book::feed_with(open_book, exps, line)
     }
 }
 
 // A whole line is read.
 fn end_line(
-    p: Progress,
+    p: &mut Progress,
+    open_book: &mut OpenBook,
     exps: &Exponentials,
     sheet: &[u64],
-    rates: &mut Rates,
-    cells: &mut Cells,
-    index: &mut Index,
-    marks: &mut Marks,
     line: &[u8],
-) -> Progress
-    requires { Sound (state_at p.book rates.old cells.old index.old marks.old) × (p.number < 2 ^ 63) × (exps.now ≡ exponentials) }
-    ensures equation { stage_at result sheet.now rates.new cells.new index.new marks.new ≡
-        with_line (stage_at p sheet.now rates.old cells.old index.old marks.old) line.now }
-    ensures sound { Sound (state_at result.book rates.new cells.new index.new marks.new) }
-    ensures number { result.number ≤ p.number + 1 }
+)
+    requires { Sound open_book.old × (p.old.number < 2 ^ 63) }
+    ensures equation { stage_at p.new sheet.now open_book.new ≡ with_line (stage_at p.old sheet.now open_book.old) line.now }
+    ensures sound { Sound open_book.new }
+    ensures number { p.new.number ≤ p.old.number + 1 }
 {
-    if p.refusal != 0 {
-        return p;
+    if p.answer.is_err() {
+        return;
     }
-    let number = p.number;
-    if number == 1 {
-        let opened = book::open_sheet(line, sheet, rates, cells, index, marks);
-        let book = opened.book;
-        return answered(opened.refusal, number, book);
+    p.answer = answer_to(p.number, open_book, exps, sheet, line);
+    if p.answer.is_ok() {
+        p.number += 1;
     }
-    let before = p.book;
-    let fed = book::feed_with(before, exps, rates, cells, index, marks, line);
-    let book = fed.book;
-    answered(fed.refusal, number, book)
 }
 
-// The lines of a part of the input that end in it, and where the rest of it begins.
-#[derive(Clone, Copy)]
-struct LinesRead {
-    progress: Progress,
-    rest: usize,
-}
-
-// Every line that ends in the bytes is read. Here alone a line is fed, so that the book is copied once and not at every call.
+// Every line that ends in the bytes is read. The result is where the rest of them begins.
+// Kept: no `split`, which does not tell whether the last part was ended, nor where it begins: no plainer.
 fn lines(
-    before: Progress,
+    p: &mut Progress,
+    open_book: &mut OpenBook,
     exps: &Exponentials,
     sheet: &[u64],
-    rates: &mut Rates,
-    cells: &mut Cells,
-    index: &mut Index,
-    marks: &mut Marks,
     bytes: &[u8],
-) -> LinesRead
-    requires { Sound (state_at before.book rates.old cells.old index.old marks.old) × (before.number + length bytes.now < 2 ^ 63) ×
-        (exps.now ≡ exponentials) }
+) -> usize
+    requires { Sound open_book.old × (p.old.number + length bytes.now < 2 ^ 63) }
     ensures equation { record {
-      stage = stage_at result.progress sheet.now rates.new cells.new index.new marks.new;
+      stage = stage_at p.new sheet.now open_book.new;
       tail =
           [];
     } ≡
         with_bytes (record {
-          stage = stage_at before sheet.now rates.old cells.old index.old marks.old;
+          stage = stage_at p.old sheet.now open_book.old;
           tail = [];
         })
-        (take result.rest bytes.now) }
-    ensures rest { (result.rest ≤ length bytes.now) × (unbroken (drop result.rest bytes.now) ≡ true) }
-    ensures sound { Sound (state_at result.progress.book rates.new cells.new index.new marks.new) }
-    ensures number { result.progress.number ≤ before.number + result.rest }
+        (take result bytes.now) }
+    ensures rest { (result ≤ length bytes.now) × (unbroken (drop result bytes.now) ≡ true) }
+    ensures sound { Sound open_book.new }
+    ensures number { p.new.number ≤ p.old.number + result }
 {
     let size = bytes.len();
-    let mut p = before;
     let mut i = 0;
     while i < size {
         let end = line_bytes::newlines::line_end(bytes, i);
         if size <= end {
-            return LinesRead {
-                progress: p,
-                rest: i,
-            };
+            return i;
         }
-        p = end_line(p, exps, sheet, rates, cells, index, marks, &bytes[i..end]);
+        end_line(p, open_book, exps, sheet, &bytes[i..end]);
         i = end + 1;
     }
-    LinesRead {
-        progress: p,
-        rest: i,
-    }
+    i
 }
 
 // The line that is held is ended, and read.
-fn end_held(
-    p: Progress,
-    tail: &mut [u8],
-    held: usize,
-    exps: &Exponentials,
-    sheet: &[u64],
-    rates: &mut Rates,
-    cells: &mut Cells,
-    index: &mut Index,
-    marks: &mut Marks,
-) -> Progress
-    requires { Sound (state_at p.book rates.old cells.old index.old marks.old) × (p.number + 242 < 2 ^ 63) × (exps.now ≡ exponentials)
-        × (held ≤ most_held) × (length tail.old ≡ 242) × (unbroken (take held tail.old) ≡ true) }
-    ensures equation { stage_at result sheet.now rates.new cells.new index.new marks.new ≡
-        with_line (stage_at p sheet.now rates.old cells.old index.old marks.old)
-        (take held tail.old) }
-    ensures sound { Sound (state_at result.book rates.new cells.new index.new marks.new) }
-    ensures number { result.number ≤ p.number + 1 }
+fn end_held(run: &mut Run, open_book: &mut OpenBook, exps: &Exponentials, sheet: &[u64])
+    requires { Running run.old open_book.old × (run.old.progress.number + 242 < 2 ^ 63) }
+    ensures equation { stage_at run.new.progress sheet.now open_book.new ≡
+        with_line (stage_at run.old.progress sheet.now open_book.old)
+        run.old.tail }
+    ensures sound { Sound open_book.new }
+    ensures number { run.new.progress.number ≤ run.old.progress.number + 1 }
+    ensures rest { (run.new.tail ≡ []) × (run.new.read ≡ run.old.read) }
 {
-    tail[held] = b'\n';
-    let end = held + 1;
-    let read = lines(p, exps, sheet, rates, cells, index, marks, &tail[0..end]);
-    read.progress
+    lines(&mut run.progress, open_book, exps, sheet, run.tail.ended());
+    run.tail.clear();
 }
 
-// Bytes are read from a place where a line begins; `read` counts them already.
+// Bytes are read from a place where a line begins; `run.read` counts them already.
 fn read_lines(
-    p: Progress,
-    before: Tail,
+    run: &mut Run,
+    open_book: &mut OpenBook,
     exps: &Exponentials,
     sheet: &[u64],
-    rates: &mut Rates,
-    cells: &mut Cells,
-    index: &mut Index,
-    marks: &mut Marks,
     bytes: &[u8],
-    read: usize,
-) -> Run
-    requires { Sound (state_at p.book rates.old cells.old index.old marks.old) × (p.number + length bytes.now ≤ 1 + read) × (read ≤ 2 ^ 62) ×
-        (exps.now ≡ exponentials)
-        × (length before ≡ 242) }
-    ensures equation { reading_of result sheet.now rates.new cells.new index.new marks.new ≡
+)
+    requires { Sound open_book.old × (run.old.progress.number + length bytes.now ≤ 1 + run.old.read) × (run.old.read ≤ 2 ^ 62)
+        × (run.old.tail ≡ []) }
+    ensures equation { reading_of run.new sheet.now open_book.new ≡
         with_bytes (record {
-          stage = stage_at p sheet.now rates.old cells.old index.old marks.old;
+          stage = stage_at run.old.progress sheet.now open_book.old;
           tail =
               [];
         })
         bytes.now }
-    ensures running { Running result rates.new cells.new index.new marks.new }
-    ensures read { result.read ≡ read }
+    ensures running { Running run.new open_book.new }
+    ensures read { run.new.read ≡ run.old.read }
 {
-    let size = bytes.len();
-    let all = lines(p, exps, sheet, rates, cells, index, marks, bytes);
-    let rest = all.rest;
-    let mut tail = before;
-    let held = line_bytes::hold(&mut tail, 0, &bytes[rest..size]);
-    let progress = all.progress;
-    Run {
-        progress,
-        held,
-        tail,
-        read,
-    }
+    let rest = lines(&mut run.progress, open_book, exps, sheet, bytes);
+    run.tail.hold(&bytes[rest..]);
 }
 
 // A part of the input is read.
 pub fn step(
-    run: Run,
+    run: &mut Run,
+    open_book: &mut OpenBook,
     exps: &Exponentials,
     sheet: &[u64],
-    rates: &mut Rates,
-    cells: &mut Cells,
-    index: &mut Index,
-    marks: &mut Marks,
     chunk: &[u8],
-) -> Run
-    requires { Running run rates.old cells.old index.old marks.old × (run.read + length chunk.now ≤ 2 ^ 62) × (exps.now ≡ exponentials) }
-    ensures equation { reading_of result sheet.now rates.new cells.new index.new marks.new ≡
-        with_bytes (reading_of run sheet.now rates.old cells.old index.old marks.old)
+)
+    requires { Running run.old open_book.old × (run.old.read + length chunk.now ≤ 2 ^ 62) }
+    ensures equation { reading_of run.new sheet.now open_book.new ≡
+        with_bytes (reading_of run.old sheet.now open_book.old)
         chunk.now }
-    ensures running { Running result rates.new cells.new index.new marks.new }
-    ensures read { result.read ≡ run.read + length chunk.now }
+    ensures running { Running run.new open_book.new }
+    ensures read { run.new.read ≡ run.old.read + length chunk.now }
 {
-    let size = chunk.len();
-    let read = run.read + size;
-    let p = run.progress;
-    let held = run.held;
-    let mut tail = run.tail;
-    if held == 0 {
-        return read_lines(
-            p, tail, exps, sheet, rates, cells, index, marks, chunk, read,
-        );
+    run.read += chunk.len();
+    if run.tail.is_empty() {
+        return read_lines(run, open_book, exps, sheet, chunk);
     }
     let end = line_bytes::newlines::line_end(chunk, 0);
-    let n = line_bytes::hold(&mut tail, held, &chunk[0..end]);
-    if size <= end {
-        return Run {
-            progress: p,
-            held: n,
-            tail,
-            read,
-        };
+    run.tail.hold(&chunk[..end]);
+    if chunk.len() <= end {
+        return;
     }
-    let next = end_held(p, &mut tail, n, exps, sheet, rates, cells, index, marks);
-    let from = end + 1;
-    read_lines(
-        next,
-        tail,
-        exps,
-        sheet,
-        rates,
-        cells,
-        index,
-        marks,
-        &chunk[from..size],
-        read,
-    )
+    end_held(run, open_book, exps, sheet);
+    read_lines(run, open_book, exps, sheet, &chunk[end + 1..]);
 }
 
 // The end of the input: a line that is held is ended, and read.
 pub fn end_input(
-    run: Run,
+    run: &mut Run,
+    open_book: &mut OpenBook,
     exps: &Exponentials,
     sheet: &[u64],
-    rates: &mut Rates,
-    cells: &mut Cells,
-    index: &mut Index,
-    marks: &mut Marks,
 ) -> Progress
-    requires { Running run rates.old cells.old index.old marks.old × (run.read ≤ 2 ^ 62) × (exps.now ≡ exponentials) }
-    ensures equation { stage_at result sheet.now rates.new cells.new index.new marks.new ≡
-        ended (reading_of run sheet.now rates.old cells.old index.old marks.old) }
-    ensures sound { Sound (state_at result.book rates.new cells.new index.new marks.new) }
+    requires { Running run.old open_book.old × (run.old.read ≤ 2 ^ 62) }
+    ensures equation { stage_at result sheet.now open_book.new ≡
+        ended (reading_of run.old sheet.now open_book.old) }
+    ensures sound { Sound open_book.new }
 {
-    let p = run.progress;
-    let unended = run.held;
-    if unended == 0 {
-        return p;
+    if run.tail.is_empty() {
+        return run.progress;
     }
-    let mut tail = run.tail;
-    end_held(
-        p, &mut tail, unended, exps, sheet, rates, cells, index, marks,
-    )
+    end_held(run, open_book, exps, sheet);
+    run.progress
 }
 
 // The end of the input: what is to be printed is written to the lent buffer, with the table of cells where it is asked for.
 pub fn finish(
-    run: Run,
+    run: &mut Run,
+    open_book: &mut OpenBook,
     exps: &Exponentials,
     sheet: &[u64],
-    rates: &mut Rates,
-    cells: &mut Cells,
-    index: &mut Index,
-    marks: &mut Marks,
     asked: bool,
     out: &mut [u8],
 ) -> usize
-    requires { Running run rates.old cells.old index.old marks.old × (run.read ≤ 2 ^ 62) × (exps.now ≡ exponentials)
-        × (report_size + cells_size ≤ length out.old) }
+    requires { Running run.old open_book.old × (run.old.read ≤ 2 ^ 62) × (report_size + cells_size ≤ length out.old) }
     ensures equation { Written out.old (printed_for asked
-        (ended (reading_of run sheet.now rates.old cells.old index.old marks.old))) result
+        (ended (reading_of run.old sheet.now open_book.old))) result
         out.new }
-    ensures whole { PrintsWhole asked (reading_of run sheet.now rates.old cells.old index.old marks.old)
+    ensures whole { PrintsWhole asked (reading_of run.old sheet.now open_book.old)
         out.old result
         out.new }
 {
-    let last = end_input(run, exps, sheet, rates, cells, index, marks);
-    let book = last.book;
-    printing::put_answer(last.refusal, last.number, book, cells, asked, out)
+    let last = end_input(run, open_book, exps, sheet);
+    printing::put_answer(last.answer, last.number, open_book, asked, out)
 }

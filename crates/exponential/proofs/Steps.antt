@@ -12,11 +12,6 @@ pub product-most : (k a b : ℕ) → b ≤ k * 2 ^ 40 → scaled_product_lem a b
 product-most k a b h = omega (arith, mul-le-mul_left a h)
 
 module _ (r : ℕ) (h : r < 2 ^ 32) where
-  pub square-fits : r * r < 2 ^ 64
-  square-fits =
-      let l : r ≤ 4294967295 = omega arith in
-      omega (arith, mul-le-mul l l)
-
   pub half-square-most : 32 * half_square_lem r ≤ r
   unfolding half_square_lem
   half-square-most = omega (arith, mul-le-mul_left r (le_of_lt h))

@@ -1,7 +1,7 @@
 // exp(-y) in fixed point, never below it (document 01, "The exponential").
 #![tactic(auto)]
 
-ghost use Rattle.std.specs.Prelude.{◌≡◌, ◌*◌, ◌-◌, ◌<◌, ◌≤◌, ◌^◌, min};
+ghost use Rattle.std.specs.Prelude.{◌≡◌, ◌*◌, ◌-◌, ◌<◌, ◌≤◌, ◌^◌};
 ghost use Rattle.exponential.specs.Exponential.{half_square_lem, third_part_lem, decrease, lowered, exp_upper_lem};
 ghost use Rattle.exponential.specs.Table.{exponentials};
 
@@ -10,13 +10,20 @@ mod values;
 // How many entries the table has: exp(-k/64) for k from 0 to 1536.
 pub const ENTRIES: usize = 1537;
 
-pub type Exponentials = [u64; ENTRIES];
+// The table, whose entries are those of the rule.
+#[derive(Drop)]
+pub struct Exponentials {
+    pub entries: [u64; ENTRIES],
+    pub ghost listed: { entries ≡ exponentials },
+}
 
-// The table. It is made once and lent from then on: a constant array is stored whole at each use.
+// It is made once and lent from then on: a constant array is stored whole at each use.
 pub fn table() -> Exponentials
-    ensures { result ≡ exponentials }
+    ensures { result.entries ≡ exponentials }
 {
-    values::TABLE
+    Exponentials {
+        entries: values::TABLE,
+    }
 }
 
 // 24 in units of 2^-38: the exponent of the last entry.
@@ -39,19 +46,13 @@ fn third_part(r: u32, s: u64) -> u64
     (8 * (r as u64) - s) * 178956970 / 274877906944
 }
 
-fn less_one(x: u64) -> u64
-    ensures { result ≡ x - 1 }
-{
-    if x < 1 { 0 } else { x - 1 }
-}
-
 // 1 - exp(-r) for r below one 64th, rounded down; r in units of 2^-38, the result in units of 2^-40.
 fn decrease_of(r: u32) -> u64
     ensures { (result ≡ decrease r) × (result < 2 ^ 34) }
 {
     let s = half_square(r);
     let v = third_part(r, s);
-    less_one(4 * (r as u64) - s + s * v / 4294967296)
+    (4 * (r as u64) - s + s * v / 4294967296).saturating_sub(1)
 }
 
 // t (1 - d), rounded up.
@@ -62,20 +63,12 @@ fn lower(t: u64, d: u64) -> u64
     t - fixed_point::small_product(t, d)
 }
 
-// y, or 24 where y is larger: a choice and no branch.
-fn within(y: u64) -> u64
-    ensures { result ≡ min y (1536 * 2 ^ 32) }
-{
-    if LAST < y { LAST } else { y }
-}
-
 // At or above exp(-y), in units of 2^-40; y in units of 2^-38.
 pub fn exp_upper(y: u64, table: &Exponentials) -> u64
-    requires { table.now ≡ exponentials }
     ensures { result ≡ exp_upper_lem y }
 {
-    let x = within(y);
+    let x = y.min(LAST);
     let k = (x / 4294967296) as usize;
     let remainder = (x % 4294967296) as u32;
-    lower(table[k], decrease_of(remainder))
+    lower(table.entries[k], decrease_of(remainder))
 }

@@ -1,7 +1,7 @@
 // The table of exp(-k/64) in units of 2^-40: entry k is the least whole number not below (specs/Table.antt).
-use crate::Exponentials;
+use crate::ENTRIES;
 
-pub const TABLE: Exponentials = [
+pub const TABLE: [u64; ENTRIES] = [
     1099511627776,
     1082465279992,
     1065683211334,

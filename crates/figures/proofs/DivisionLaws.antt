@@ -1,7 +1,7 @@
 -- Laws of a division in steps, and of its rounding. Assumes nothing.
 use mathlib.Core.Path.{◌≡◌, sym, ap, ◌∙◌}
 use mathlib.Core.Bool.{Bool, true, false}
-use Prim.Native.Nat.{ℕ, ◌+◌, ◌*◌, ◌/◌, ◌%◌, ◌^◌, ◌≤◌, ◌<◌, min}
+use Prim.Native.Nat.{ℕ, ◌+◌, ◌*◌, ◌/◌, ◌%◌, ◌≤◌, ◌<◌, min}
 use native.Mathlib.Decide.{dec_le}
 use native.Mathlib.Nat.{div-eq_of_lt-le, div-add-mod', mod-lt, div-lt_iff_lt-mul, le-div_iff_mul-le, min-eq_left, min-eq_right}
 use native.Mathlib.Omega.{arith}
@@ -22,16 +22,6 @@ step x d f h =
     let e = unique (x / d * f + x % d * f / d) (x % d * f % d) (x * f) d (mod-lt (x % d * f) h)
     (omega (arith, div-add-mod' (x % d * f) d, ap (λ (t : ℕ). t * f) (div-add-mod' x d)))
     in λ i. record { quotient = e.0 i; remainder = e.1 i }
-
--- A division a of x by d, at most k times d: what the next step, ten times finer, asks and gives.
-pub step-asks : (x d k : ℕ) (a : Division) → a ≡ divided x d → 0 < d → d < 2 ^ 59 → x < k * d → k < 2 ^ 58 → (a.remainder < d) × (d * 10 < 2 ^ 64)
-    × (a.quotient * 10 < 2 ^ 62) × (10 < 2 ^ 62)
-step-asks x d k a e pos small low fits =
-    let quotient : a.quotient ≡ x / d = ap (λ (t : Division). t.quotient) e in
-    let remainder : a.remainder ≡ x % d = ap (λ (t : Division). t.remainder) e in
-    let rest : x % d < d = mod-lt x pos in
-    let below : x / d < k = (div-lt_iff_lt-mul pos).1 low in
-    (omega arith, omega arith, omega arith, omega arith)
 
 pub step_gives : (x d : ℕ) (a b : Division) → a ≡ divided x d → 0 < d → b ≡ division_step_lem a d 10 → b ≡ divided (x * 10) d
 step_gives x d a b e pos s = s ∙ ap (λ (t : Division). division_step_lem t d 10) e ∙ step x d 10 pos

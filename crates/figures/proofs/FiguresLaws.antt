@@ -9,7 +9,7 @@ use lib.Dec.{eqb}
 use borrow.Author.Tests.{eqb-false}
 use Rattle.fixed_point.specs.declared.Signed.{Signed}
 use Rattle.figures.specs.declared.Sums.{Sums}
-use Rattle.figures.specs.declared.Ratio.TheVariants.{Number, None}
+use Rattle.std.specs.Prelude.{Some, None}
 use Rattle.figures.specs.Sums.{Bounded, InLimits}
 use Rattle.exact.specs.Choice.{pick}
 use Rattle.figures.specs.Figures.{difference, required_of, positive_equity, admitted, capital_of, ratio_size_lem, ratio_of, figures_of, Within, RatioBounds}
@@ -54,7 +54,7 @@ ratio-bounded capital required = go (eqb required 0) refl
           )
         ]
 
-    go : (t : Bool) → eqb required 0 ≡ t → RatioBounds (pick t None (Number (record { plus = above; minus = below })))
+    go : (t : Bool) → eqb required 0 ≡ t → RatioBounds (pick t None (Some (record { plus = above; minus = below })))
     go true e = tt
     go false e = record {
       above = size-le false (capital.plus - capital.minus) required;

@@ -9,9 +9,8 @@ use borrow.Author.Tests.{eqb-true, eq-eqb}
 use lib.Dec.{eqb}
 use Rattle.exact.specs.Choice.{pick}
 use Rattle.fixed_point.specs.declared.Signed.{Signed}
-use Rattle.figures.specs.declared.Ratio.{Ratio}
+use Rattle.std.specs.Prelude.{Option, Some, None}
 use Rattle.figures.specs.declared.Sums.{Sums}
-use Rattle.figures.specs.declared.Ratio.TheVariants.{Number, None}
 use Rattle.figures.specs.Figures.{required_of, positive_equity, admitted_b_lem, admitted_c_lem, admitted, capital_of, ratio_size_lem, ratio_of, figures_from}
 use Rattle.figures.specs.Words.{Greatest, ReportFigures, FigureWords}
 
@@ -25,18 +24,18 @@ words-none : (capital : Signed) (required : ℕ) → (ratio_of capital required 
 unfolding ratio_of
 words-none capital required = (λ e. go (eqb required 0) refl e, λ e. rw (eq-eqb required 0 e) refl)
   where
-    is_none : Ratio → Type 0
-    is_none (Number x) = ⊥
+    is_none : Option Signed → Type 0
+    is_none (Some x) = ⊥
     is_none None = Unit {0}
 
-    go : (t : Bool) → eqb required 0 ≡ t → pick t None (Number (record {
+    go : (t : Bool) → eqb required 0 ≡ t → pick {A = Option Signed} t None (Some (record {
       plus = ratio_size_lem false (capital.plus - capital.minus) required;
       minus = ratio_size_lem true (capital.minus - capital.plus) required;
     })) ≡ None → required ≡ 0
     go true e f = eqb-true required 0 e
     go false e f = absurd (transport-none f)
       where
-        transport-none : {x : Signed} → Number x ≡ None → ⊥
+        transport-none : {x : Signed} → Some x ≡ None → ⊥
         transport-none g = subst is_none (sym g) tt
 
 words-above : (n d : ℕ) → 1 ≤ d → Greatest (λ x. (x ≤ 10000000) × (x * d ≤ n * 15000)) (ratio_size_lem false n d)

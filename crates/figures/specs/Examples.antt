@@ -1,8 +1,7 @@
 -- Document 01's proved examples 10, 11 and 12, as far as they concern figures.
-use Rattle.std.specs.Prelude.{◌≡◌, ◌*◌}
+use Rattle.std.specs.Prelude.{◌≡◌, ◌*◌, Some}
 use Rattle.figures.specs.declared.Sums.{Sums}
 use Rattle.figures.specs.declared.Figures.{Figures}
-use Rattle.figures.specs.declared.Ratio.TheVariants.{Number}
 use Rattle.figures.specs.Sums.{zero_signed, zero_money, money_sum_lem, money_of}
 use Rattle.figures.specs.Figures.{positive_equity, admitted_b_lem, admitted_c_lem, figures_of}
 
@@ -31,7 +30,7 @@ figures12 = record {
   oper = 91;
   required = 542;
   capital = record { plus = 1075; minus = 0 };
-  ratio = Number (record { plus = 29750; minus = 0 });
+  ratio = Some (record { plus = 29750; minus = 0 });
 }
 
 pub record Examples : Type 0 where

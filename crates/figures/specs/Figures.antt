@@ -1,12 +1,10 @@
 -- The report's figures (01, "The rest, and closing"), in whole cents. A difference of natural numbers is 0 where it would be negative,
 -- so a - b is "the larger of a - b and 0"; a signed number is plus - minus.
-use Rattle.std.specs.Prelude.{ℕ, ◌+◌, ◌-◌, ◌*◌, ◌/◌, ◌≤◌, min, ◌≡◌, Bool, true, false, eqb}
+use Rattle.std.specs.Prelude.{ℕ, ◌+◌, ◌-◌, ◌*◌, ◌/◌, ◌≤◌, min, ◌≡◌, Bool, true, false, eqb, Option, Some, None}
 use Rattle.exact.specs.Choice.{pick}
 use Rattle.fixed_point.specs.declared.Signed.{Signed}
 use Rattle.figures.specs.declared.Money.{Money}
 use Rattle.figures.specs.declared.Sums.{Sums}
-use Rattle.figures.specs.declared.Ratio.{Ratio}
-use Rattle.figures.specs.declared.Ratio.TheVariants.{Number, None}
 use Rattle.figures.specs.declared.Figures.{Figures}
 use Rattle.figures.specs.Sums.{in_parts}
 
@@ -61,10 +59,10 @@ ratio_size_lem negative n required = min 10000000 (rounded negative (n * 15000) 
 
 -- ratio (002, 1.1.1: the required amount is divided by 1.5): capital × 15,000 / required, in hundredths of a per cent, rounded down toward
 -- minus infinity, held within ±10,000,000; none when required is 0
-unfoldable pub ratio_of : Signed → ℕ → Ratio
+unfoldable pub ratio_of : Signed → ℕ → Option Signed
 ratio_of capital required =
     pick (eqb required 0) None
-    (Number (record {
+    (Some (record {
       plus = ratio_size_lem false (capital.plus - capital.minus) required;
       minus = ratio_size_lem true (capital.minus - capital.plus) required;
     }))
@@ -98,8 +96,8 @@ pub record Within (p m : ℕ) (x : Signed) : Type 0 where
   pub one_side : min x.plus x.minus ≡ 0
 
 -- a ratio within ±10,000,000
-unfoldable pub RatioBounds : Ratio → Type 0
-RatioBounds (Number x) = Within 10000000 10000000 x
+unfoldable pub RatioBounds : Option Signed → Type 0
+RatioBounds (Some x) = Within 10000000 10000000 x
 RatioBounds None = Unit {0}
 
 -- how large the figures of a book can be: none has more than 18 digits

@@ -1,9 +1,8 @@
 -- The figures, the limits on capital and the ratio (01, "The rest, and closing") in inequalities, without a quotient and without a difference that
 -- ends at 0: Figures.antt says the same by these.
-use Rattle.std.specs.Prelude.{ℕ, ◌+◌, ◌*◌, ◌≤◌, ◌<◌, true, false, ◌↔◌, ◌≡◌}
+use Rattle.std.specs.Prelude.{ℕ, ◌+◌, ◌*◌, ◌≤◌, ◌<◌, true, false, ◌↔◌, ◌≡◌, None}
 use Rattle.fixed_point.specs.declared.Signed.{Signed}
 use Rattle.figures.specs.declared.Figures.{Figures}
-use Rattle.figures.specs.declared.Ratio.TheVariants.{None}
 use Rattle.figures.specs.declared.Sums.{Sums}
 use Rattle.figures.specs.Figures.{admitted_b_lem, admitted_c_lem, ratio_size_lem, ratio_of, figures_from}
 

@@ -1,8 +1,11 @@
 // Products and quotients of 64-bit fixed-point numbers. Each contract is an equation on natural numbers.
 #![tactic(auto)]
 
-ghost use Rattle.std.specs.Prelude.{◌≡◌, ◌*◌, ◌<◌, ◌≤◌, ◌^◌};
+ghost use Rattle.std.specs.Prelude.{◌≡◌, ◌+◌, ◌*◌, ◌<◌, ◌≤◌, ◌^◌};
 ghost use Rattle.fixed_point.specs.Quotient.{scaled_product_lem, division_step_lem};
+ghost use Rattle.fixed_point.specs.SignedNumbers.{signed_difference, signed_plus};
+
+use std::ops::Add;
 
 // The product of two numbers in units of 2^-40, rounded down: of two halves each, so that no product passes 64 bits.
 pub fn scaled_product(a: u64, b: u64) -> u64
@@ -17,6 +20,7 @@ pub fn scaled_product(a: u64, b: u64) -> u64
 }
 
 // The same product of numbers up to 1 and up to 2: there is room for the first times each half of the second.
+// Kept: another formula than `scaled_product`, three products for its five, and the edit half_misscaled is a mistake in it alone.
 pub fn small_product(a: u64, b: u64) -> u64
     requires { (a ≤ 2 ^ 40) × (b ≤ 2 ^ 41) }
     ensures { result ≡ scaled_product_lem a b }
@@ -27,10 +31,37 @@ pub fn small_product(a: u64, b: u64) -> u64
 }
 
 // A signed number: plus - minus.
-#[derive(Clone, Copy)]
+#[derive(Clone, Copy, Default)]
 pub struct Signed {
     pub plus: u64,
     pub minus: u64,
+}
+
+impl Signed {
+    // The number plus - minus, with one side 0.
+    pub fn difference(plus: u64, minus: u64) -> Self
+        ensures { result ≡ signed_difference plus minus }
+    {
+        Signed {
+            plus: plus.saturating_sub(minus),
+            minus: minus.saturating_sub(plus),
+        }
+    }
+}
+
+impl Add for Signed {
+    type Output = Signed;
+
+    ghost can_add = { λ x y. (x.plus + y.plus < 2 ^ 64) × (x.minus + y.minus < 2 ^ 64) };
+
+    ghost add_gives = { λ x y r. r ≡ signed_plus x y };
+
+    fn add(self, rhs: Signed) -> Signed {
+        Signed {
+            plus: self.plus + rhs.plus,
+            minus: self.minus + rhs.minus,
+        }
+    }
 }
 
 // A long division so far.

@@ -10,15 +10,10 @@ use borrow.Author.Tests.{eqb-true, eqb-false}
 use Rattle.loan_charge.specs.CreditFactor.{built_in_sheet, rates_of_lem}
 use Rattle.sheet.specs.Sheet.{SheetRules}
 use Rattle.line_forms.specs.declared.Header.{Header}
-use Rattle.line_forms.specs.Readings.{line_of}
 use Rattle.report.specs.Line.{onto}
 use Rattle.book_model.specs.declared.Book.{Book}
-use Rattle.book_model.specs.declared.Closed.{Closed}
-use Rattle.book_model.specs.declared.Fed.{Fed}
-use Rattle.book_model.specs.declared.Joined.{Joined}
-use Rattle.book_model.specs.declared.Opened.{Opened}
 use Rattle.book_model.specs.Accepted.{Accepted, counts_in, refusal_of}
-use Rattle.book_model.specs.Calls.{State, Answer, state_at, terms_in, opened_of, fed_of, opening, feeding, closing, closed, closing_cells, SoundBook, Sound}
+use Rattle.book_model.specs.Calls.{State, Answer, Closed, state_at, terms_in, opening, feeding, closing, closed, closing_cells, SoundBook, Sound}
 use Rattle.book_model.specs.Calls.{report_size, cells_size, closed_cells}
 use Rattle.book_model.specs.Demand2.{IsReturn}
 use Rattle.book_model.specs.Demand3.{Writes, Closes, SameTexts, SameReports}
@@ -26,7 +21,7 @@ use Rattle.book_model.specs.FreshScores.{CountsKept, CountsMet}
 use Rattle.book_model.specs.History.{History, fed, all_fed, header_line, sheet_of, terms_of, accepted_of, lines_taken}
 use Rattle.book_model.specs.LoanTable.{WritesCells, SameTables}
 use Rattle.book_model.specs.GivenState.{state_given, IsOpened}
-use Rattle.book_model.specs.Joining.{may_join_lem, joining, joined_of, JoinedBooks}
+use Rattle.book_model.specs.Joining.{may_join_lem, joining, JoinedBooks}
 use Rattle.book_model.specs.HouseIndex.{InTable, values_in, values_at}
 use Rattle.book_model.specs.Marks.{no_marks, names_in}
 use Rattle.book_model.specs.Standing.{SameBook}
@@ -37,16 +32,14 @@ use Rattle.book_model.proofs.AsOneBook.{state-given, sheet-of}
 use Rattle.book_model.proofs.Demand1.{demand1}
 use Rattle.book_model.proofs.Demand2.{openings, feeding-answer, closing-answer}
 use Rattle.book_model.proofs.Demand3.{terms-in-range, closes-of, measured-of, same-reports}
-use Rattle.book_model.proofs.Feeding.{rates-kept}
 use Rattle.book_model.proofs.FreshScores.{taken-sound, fresh_scores}
-use Rattle.book_model.proofs.Joining.{joining-holds}
+use Rattle.book_model.proofs.Joining.{joining-holds, without-marks-sound}
 use Rattle.book_model.proofs.LoanTable.{cell-is, cell-sums, cells-written, same_tables}
 use Rattle.book_model.proofs.IndexTables.{values-are}
 use Rattle.book_model.proofs.Ledger.{ledger-of, good_of}
 use Rattle.book_model.proofs.SetValues.{not_set}
 use Rattle.book_model.proofs.Standing.{standing, marks, returned-to, line-fed}
 use Rattle.book_model.proofs.Steps.{state_of, names-are}
-use Rattle.book.proofs.Answers.{without-marks}
 use Rattle.histories.specs.Demands.{CallsDemand1, CallsDemand2, CallsDemand3, CallsLoanTable, CallsOwnFactors, CallsAdjustedValues}
 use Rattle.histories.specs.Demands.{CallsFreshScores, CallsStanding}
 use Rattle.histories.specs.Given.{OpeningCall, by_open, by_open_sheet, FeedingCall, by_feed, by_feed_with, CloseCall, CellsCall}
@@ -55,52 +48,24 @@ use Rattle.histories.specs.Asked.{CallsAsked}
 
 -- What each call gave, by its contract
 
--- from the five parts that a contract tells
-opened-parts : (sheet line : List ℕ) {r : Opened} {rates cells index : List ℕ} {marks : List (List ℕ)} → r ≡ opened_of (opening sheet line) →
-    rates ≡ (opening sheet line).state.rates → cells ≡ (opening sheet line).state.cells → index ≡ (opening sheet line).state.index →
-    marks ≡ (opening sheet line).state.marks → record { refusal = r.refusal; state = state_at r.book rates cells index marks } ≡ opening sheet line
-opened-parts sheet line e f g k m = λ i. record { refusal = (e i).refusal; state = state_at (e i).book (f i) (g i) (k i) (m i) }
-
 opened-by : {sheet line : List ℕ} {a : Answer} → OpeningCall sheet line a → a ≡ opening sheet line
-opened-by (by_open c) =
-    sym c.gave ∙ opened-parts _ _ c.learnt.0 c.learnt.1.0 c.learnt.1.1.0 c.learnt.1.1.1.0
-    c.learnt.1.1.1.1.0 ∙ ap (opening built_in_sheet) c.lent
-opened-by (by_open_sheet c) =
-    sym c.gave ∙ opened-parts _ _ c.learnt.0 c.learnt.1.0 c.learnt.1.1.0 c.learnt.1.1.1.0
-    c.learnt.1.1.1.1.0 ∙ ap₂ opening c.factors c.lent
-
--- feeding leaves the rates
-fed-state : (s : State) (line : List ℕ) →
-    (feeding s line).state ≡
-    state_at (feeding s line).state.book s.rates (feeding s line).state.cells (feeding s line).state.index (feeding s line).state.marks
-fed-state s line =
-    λ i. state_at (feeding s line).state.book (rates-kept s (line_of line) i) (feeding s line).state.cells (feeding s line).state.index
-    (feeding s line).state.marks
-
--- from the four parts that a contract tells
-fed-parts : (s : State) (line : List ℕ) {r : Fed} {cells index : List ℕ} {marks : List (List ℕ)} → r ≡ fed_of (feeding s line) →
-    cells ≡ (feeding s line).state.cells → index ≡ (feeding s line).state.index → marks ≡ (feeding s line).state.marks →
-    record { refusal = r.refusal; state = state_at r.book s.rates cells index marks } ≡ feeding s line
-fed-parts s line e f g k =
-    (λ i. record { refusal = (e i).refusal; state = state_at (e i).book s.rates (f i) (g i) (k i) })
-    ∙ (λ i. record { refusal = (feeding s line).refusal; state = sym (fed-state s line) i })
+opened-by (by_open c) = sym c.gave ∙ c.learnt.0 ∙ ap (opening built_in_sheet) c.lent
+opened-by (by_open_sheet c) = sym c.gave ∙ c.learnt.0 ∙ ap₂ opening c.factors c.lent
 
 fed_by : {s : State} {line : List ℕ} {a : Answer} → FeedingCall s line a → a ≡ feeding s line
-fed_by (by_feed c) =
-    sym c.gave ∙ fed-parts _ _ c.learnt.0 c.learnt.1.0 c.learnt.1.1.0 c.learnt.1.1.1.0 ∙ ap₂ feeding c.handed c.lent
-fed_by (by_feed_with c) =
-    sym c.gave ∙ fed-parts _ _ c.learnt.0 c.learnt.1.0 c.learnt.1.1.0 c.learnt.1.1.1.0 ∙ ap₂ feeding c.handed c.lent
+fed_by (by_feed c) = sym c.gave ∙ c.learnt.0 ∙ ap₂ feeding c.handed c.lent
+fed_by (by_feed_with c) = sym c.gave ∙ c.learnt.0 ∙ ap₂ feeding c.handed c.lent
 
 pub closed-by : {b : Book} {buffer after : List ℕ} {r : Closed} → CloseCall b buffer r after → (r ≡ closing b (length buffer)) × (after ≡ closed b buffer)
 closed-by c = (
-  c.learnt.0 ∙ ap₂ (λ (x : Book) (l : List ℕ). closing x (length l)) c.handed c.lent,
+  sym c.gave ∙ c.learnt.0 ∙ ap₂ (λ (x : Book) (l : List ℕ). closing x (length l)) c.handed c.lent,
   sym c.left ∙ c.learnt.1 ∙ ap₂ (λ (x : Book) (l : List ℕ). closed x l) c.handed c.lent,
 )
 
 pub cells-by : {b : Book} {cells buffer after : List ℕ} {r : Closed} → CellsCall b cells buffer r after → (r ≡ closing_cells b cells (length buffer))
     × (after ≡ closed_cells b cells buffer)
 cells-by c = (
-  c.learnt.0 ∙ (λ i. closing_cells (c.handed i) (c.table i) (length (c.lent i))),
+  sym c.gave ∙ c.learnt.0 ∙ (λ i. closing_cells (c.handed i) (c.table i) (length (c.lent i))),
   sym c.left ∙ c.learnt.1 ∙ (λ i. closed_cells (c.handed i) (c.table i) (c.lent i)),
 )
 
@@ -110,16 +75,9 @@ marks-unseen : (a b : State) → joining (state_at a.book a.rates a.cells a.inde
 unfolding joining may_join_lem
 marks-unseen a b = refl
 
--- from the five parts that a contract tells
-join-parts : (a b : State) {r : Joined} {rates cells index : List ℕ} {marks : List (List ℕ)} → r ≡ joined_of (joining a b) → rates ≡ (joining a b).state.rates →
-    cells ≡ (joining a b).state.cells → index ≡ (joining a b).state.index → marks ≡ (joining a b).state.marks →
-    record { refusal = r.refusal; state = state_at r.book rates cells index marks } ≡ joining a b
-join-parts a b e f g k m = λ i. record { refusal = (e i).refusal; state = state_at (e i).book (f i) (g i) (k i) (m i) }
-
 pub joined_by : {s u : State} {a : Answer} → JoinCall s u a → a ≡ joining s u
 joined_by {s} {u} c =
-    sym c.gave
-    ∙ join-parts _ _ c.learnt.0 c.learnt.1.0 c.learnt.1.1.0 c.learnt.1.1.1.0 c.learnt.1.1.1.1.0
+    sym c.gave ∙ c.learnt.0
     ∙ ap₂ (λ (a b : State). joining (state_at a.book a.rates a.cells a.index no_marks) (state_at b.book b.rates b.cells b.index no_marks))
     c.first c.second
     ∙ marks-unseen s u
@@ -339,7 +297,7 @@ calls-asked = record {
   opening_sheet = λ lifetimes args. tt;
   closing_cells_law = λ lifetimes args. tt;
   feeding = λ g lifetimes args e. subst Sound (sym e) (sound g);
-  feeding_with = λ g lifetimes args e f. (subst Sound (sym e) (sound g), f);
-  joining = λ g f lifetimes args d e. (without-marks (subst Sound (sym d) (sound g)), without-marks (subst Sound (sym e) (sound f)));
+  feeding_with = λ g lifetimes args e. subst Sound (sym e) (sound g);
+  joining = λ g f lifetimes args d e. (without-marks-sound (subst Sound (sym d) (sound g)), without-marks-sound (subst Sound (sym e) (sound f)));
   closing = λ g lifetimes args e. subst SoundBook (sym e) (sound g).book;
 }

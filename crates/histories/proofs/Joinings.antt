@@ -7,8 +7,7 @@ use Prim.Native.Nat.{ℕ}
 use native.Mathlib.Omega.{arith}
 use lib.ListN.{length, get_or, drop}
 use Rattle.loan_charge.specs.CreditFactor.{rates_of_lem}
-use Rattle.book_model.specs.declared.Closed.{Closed}
-use Rattle.book_model.specs.Calls.{State, Answer, Sound, terms_in, closing, closed, closing_cells, closed_cells}
+use Rattle.book_model.specs.Calls.{Closed, State, Answer, Sound, terms_in, closing, closed, closing_cells, closed_cells}
 use Rattle.book_model.specs.Demand2.{CountsReached}
 use Rattle.book_model.specs.GivenState.{state_given}
 use Rattle.book_model.specs.History.{History, sheet_of, terms_of, accepted_of}

@@ -3,7 +3,6 @@
 use Rattle.std.specs.Prelude.{◌≡◌}
 use contract.Lifetimes.{Lfts}
 use borrow.Fn.Kinds.{Dens}
-use Rattle.loan_charge.specs.Tables.{exponentials}
 use Rattle.book_model.specs.Calls.{State, state_at}
 use Rattle.book_model.specs.History.{History}
 use Rattle.book.proofs.open.Reads as open-reads
@@ -24,20 +23,19 @@ use Rattle.histories.specs.Given.{Given}
 
 pub record CallsAsked : Type 0 where
   -- Openings and the second closing ask nothing.
-  pub opening : (lifetimes : Lfts 5) (args : Dens lifetimes open-kinds.ps) → open-reads.Asked lifetimes args
-  pub opening_sheet : (lifetimes : Lfts 6) (args : Dens lifetimes sheet-kinds.ps) → sheet-reads.Asked lifetimes args
-  pub closing_cells_law : (lifetimes : Lfts 2) (args : Dens lifetimes cells-kinds.ps) → cells-reads.Asked lifetimes args
-  -- A feeding is handed such a state, its tables lent; `feed_with` also the exponential's table.
-  pub feeding : {h : History} {s : State} → Given h s → (lifetimes : Lfts 5) (args : Dens lifetimes feed-kinds.ps) →
-      state_at args.0 args.1.0.now args.1.1.0.now args.1.1.1.0.now args.1.1.1.1.0.now ≡ s → feed-reads.Asked lifetimes args
-  pub feeding_with : {h : History} {s : State} → Given h s → (lifetimes : Lfts 6) (args : Dens lifetimes with-kinds.ps) →
-      state_at args.0 args.1.1.0.now args.1.1.1.0.now args.1.1.1.1.0.now args.1.1.1.1.1.0.now ≡ s →
-      args.1.0.now ≡ exponentials → with-reads.Asked lifetimes args
-  -- A joining is handed two such states, all their tables but the marks lent.
-  pub joining : {h k : History} {s u : State} → Given h s → Given k u → (lifetimes : Lfts 10) (args : Dens lifetimes join-kinds.ps) →
-      state_at args.0 args.1.0.now args.1.1.0.now args.1.1.1.0.now s.marks ≡ s →
-      state_at args.1.1.1.1.0 args.1.1.1.1.1.0.now args.1.1.1.1.1.1.0.now args.1.1.1.1.1.1.1.0.now u.marks ≡ u →
+  pub opening : (lifetimes : Lfts 2) (args : Dens lifetimes open-kinds.ps) → open-reads.Asked lifetimes args
+  pub opening_sheet : (lifetimes : Lfts 3) (args : Dens lifetimes sheet-kinds.ps) → sheet-reads.Asked lifetimes args
+  pub closing_cells_law : (lifetimes : Lfts 3) (args : Dens lifetimes cells-kinds.ps) → cells-reads.Asked lifetimes args
+  -- A feeding is lent a book in such a state.
+  pub feeding : {h : History} {s : State} → Given h s → (lifetimes : Lfts 2) (args : Dens lifetimes feed-kinds.ps) → args.0.now ≡ s →
+      feed-reads.Asked lifetimes args
+  pub feeding_with : {h : History} {s : State} → Given h s → (lifetimes : Lfts 3) (args : Dens lifetimes with-kinds.ps) → args.0.now ≡ s →
+      with-reads.Asked lifetimes args
+  -- A joining is lent books in two such states, whatever marks they have.
+  pub joining : {h k : History} {s u : State} → Given h s → Given k u → (lifetimes : Lfts 3) (args : Dens lifetimes join-kinds.ps) →
+      state_at args.1.0.now.book args.1.0.now.rates args.1.0.now.cells args.1.0.now.index s.marks ≡ s →
+      state_at args.1.1.0.now.book args.1.1.0.now.rates args.1.1.0.now.cells args.1.1.0.now.index u.marks ≡ u →
       join-reads.Asked lifetimes args
-  -- A closing is handed the book of such a state.
-  pub closing : {h : History} {s : State} → Given h s → (lifetimes : Lfts 1) (args : Dens lifetimes close-kinds.ps) → args.0 ≡ s.book →
+  -- A closing is lent the book of such a state.
+  pub closing : {h : History} {s : State} → Given h s → (lifetimes : Lfts 2) (args : Dens lifetimes close-kinds.ps) → args.0.now ≡ s.book →
       close-reads.Asked lifetimes args

@@ -11,9 +11,8 @@ use Rattle.line_forms.specs.Claims.{ShowsInRange}
 use Rattle.report.specs.Line.{onto}
 use Rattle.cell_report.specs.CellReport.{cell_at}
 use Rattle.book_model.specs.declared.Book.{Book}
-use Rattle.book_model.specs.declared.Closed.{Closed}
 use Rattle.book_model.specs.Accepted.{Note, counts_in, names_of, accept}
-use Rattle.book_model.specs.Calls.{State, Answer, Sound}
+use Rattle.book_model.specs.Calls.{Closed, State, Answer, Sound}
 use Rattle.book_model.specs.Demand1.{refused_state}
 use Rattle.book_model.specs.Demand2.{OpeningAnswer, FeedingAnswer, ClosingAnswer, IsSet, IsReturn, Indexed}
 use Rattle.book_model.specs.Demand3.{report_for, LedgerTakes, Measured}

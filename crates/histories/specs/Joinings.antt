@@ -2,8 +2,7 @@
 -- book needs no further word here: it is one of the states of `Given`. Proved in proofs/Joinings.antt.
 use Rattle.std.specs.Prelude.{◌≡◌, ◌↔◌, ◌⊎◌, ℕ}
 use mathlib.Core.List.{List, [], ◌∷◌, ◌++◌, Permᴰ}
-use Rattle.book_model.specs.declared.Closed.{Closed}
-use Rattle.book_model.specs.Calls.{State, Answer}
+use Rattle.book_model.specs.Calls.{Closed, State, Answer}
 use Rattle.book_model.specs.Demand1.{refused_state}
 use Rattle.book_model.specs.Demand2.{CountsReached}
 use Rattle.book_model.specs.GivenState.{IsOpened}

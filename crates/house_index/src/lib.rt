@@ -2,7 +2,7 @@
 #![tactic(auto)]
 
 ghost use Rattle.std.specs.Prelude.{◌≡◌, ◌<◌, set};
-ghost use Rattle.book_model.specs.HouseIndex.{InTable, is_indexed_lem, adjustment_of, lacking, place_for, values_at, empty_index};
+ghost use Rattle.book_model.specs.HouseIndex.{InTable, is_indexed_lem, adjustment_of, lacking, place_for, values_at};
 ghost use Rattle.book_model.specs.Ranges.{LoanRanges, IndexRanges};
 
 use book_model::Adjustment;
@@ -11,14 +11,8 @@ use line_forms::{IndexValue, Loan};
 // Twelve areas of 132 months; 0 stands where no value is set.
 pub const PLACES: usize = 1584;
 
-pub type Index = [u64; PLACES];
-
-// No value is set.
-pub fn clear(index: &mut Index)
-    ensures { index.new ≡ empty_index }
-{
-    *index = [0; PLACES];
-}
+// Kept: numbers with 0 for none, and no Option, since the definitions values_at and empty_index and the rows of marks speak of them.
+pub type Index = book_model::Index;
 
 // Where the value of an area and month stands.
 fn place_of(area: u64, month: u64) -> usize
@@ -44,6 +38,7 @@ fn is_indexed(l: Loan) -> bool
 }
 
 // The two values by which the property value of a loan is adjusted.
+// Kept: `LoanRanges l` here and `IndexRanges i` below are asked, and are no invariants, since `Content` holds both out of range (content_of, line_for).
 pub fn adjustment(l: Loan, index: &Index) -> Adjustment
     requires { LoanRanges l }
     ensures { result ≡ adjustment_of (values_at index.now) l }
@@ -65,6 +60,7 @@ pub fn is_lacking(a: Adjustment) -> bool
 }
 
 // The value that is set where this one would stand, 0 for none.
+// Kept: 0 and no Option, since the definition values_at gives the number that stands there.
 pub fn before(index: &Index, i: IndexValue) -> u64
     requires { IndexRanges i }
     ensures { result ≡ values_at index.now i.area i.month }

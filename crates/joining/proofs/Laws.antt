@@ -1,31 +1,40 @@
 -- Tests and tables as the functions go through them. Assumes nothing.
 use mathlib.Core.Path.{◌≡◌, refl, sym, ◌∙◌, ap, subst}
-use mathlib.Core.Bool.{Bool, true, false, not}
-use mathlib.Core.List.{List, [], ◌++◌, append-nil}
+use mathlib.Core.Bool.{Bool, true, false, true≢false, beq}
+use mathlib.Core.List.{List, ◌++◌, append-nil}
 use Prim.Native.Nat.{ℕ, suc, ◌+◌, ◌-◌, ◌*◌, ◌/◌, ◌^◌, ◌≤◌, ◌<◌}
 use native.Mathlib.Omega.{arith}
 use native.Mathlib.Numerals.{add-one}
 use lib.Dec.{ltb}
-use lib.ListN.{set, replicate}
+use lib.ListN.{length, set, replicate}
 use borrow.Author.Tests.{lt-ltb, le-ltb, ltb-true, ltb-false}
-use Rattle.exact.specs.Choice.{pick}
-use Rattle.loan_charge.specs.CreditFactor.{built_in_rates_lem}
+use Rattle.std.specs.Prelude.{nat_eq}
+use Rattle.std.specs.Cmp.Lexicographic.{pointwise, same_text, other_text}
 use Rattle.book_model.specs.declared.Book.{Book}
-use Rattle.book_model.specs.declared.Joined.{Joined}
-use Rattle.book_model.specs.Calls.{State, Answer, state_at, empty_book, SoundBook, Sound}
-use Rattle.book_model.specs.Cells.{empty_cells, CellsBounded}
-use Rattle.book_model.specs.HouseIndex.{empty_index}
-use Rattle.book_model.specs.Joining.{may_join_lem, places, added_cells, joined_state, joining, joined_of}
-use Rattle.book_model.specs.Marks.{no_marks}
-use Rattle.book_model.specs.Terms.{zero_header}
+use Rattle.book_model.specs.Calls.{State, Answer, empty_state, SoundBook, Sound}
+use Rattle.book_model.specs.Cells.{CellsBounded}
+use Rattle.book_model.specs.Joining.{same_places, alike, may_join_lem, places, joined_state, joining}
+use Rattle.book_model.specs.Terms.{refused_terms}
 use Rattle.book_model.proofs.Cells.{bounded-wider}
 use Rattle.book_model.proofs.Joining.{may-forth, joined-when, refused-when, joining-sound}
-use Rattle.book_model.proofs.Places.{places-next}
+use Rattle.book_model.proofs.Places.{places-next, same_tables}
 
--- a test turned round
-pub not_is : (y : Bool) → not y ≡ pick y false true
-not_is true = refl
-not_is false = refl
+-- whether two tables are equal, place by place
+pub places-equal : (n : ℕ) (xs ys : List ℕ) → length xs ≡ n → length ys ≡ n → pointwise nat_eq xs ys ≡ same_places n xs ys
+places-equal n xs ys e f = go (pointwise nat_eq xs ys) refl (same_places n xs ys) refl
+  where
+    go : (p : Bool) → p ≡ pointwise nat_eq xs ys → (q : Bool) → q ≡ same_places n xs ys → p ≡ q
+    go true a true b = refl
+    go false a false b = refl
+    go true a false b = absurd (true≢false (sym ((same_tables n xs ys e f).1 (same_text xs ys a)) ∙ sym b))
+    go false a true b = absurd (other_text xs ys a ((same_tables n xs ys e f).0 (sym b)))
+
+-- whether two tests gave the same
+pub same-answer : (x y : Bool) → beq x y ≡ alike x y
+same-answer true true = refl
+same-answer true false = refl
+same-answer false true = refl
+same-answer false false = refl
 
 -- a twentieth, rounded down, with no product
 pub twentieth : (loans unscored : ℕ) → ltb (loans / 20) unscored ≡ ltb loans (20 * unscored)
@@ -53,11 +62,6 @@ filled-whole t f i h e = e ∙ ap (λ (m : ℕ). filled m f) h ∙ append-nil (p
 pub cells-small : (s : State) → Sound s → CellsBounded s.cells 4000000
 cells-small s h = bounded-wider s.cells (omega (arith, h.book.loans, h.book.header_loans)) h.cells
 
--- the test does not look at cells or marks
-pub tested : (a b : State) → may_join_lem (state_at a.book a.rates [] a.index []) (state_at b.book b.rates [] b.index []) ≡ may_join_lem a b
-unfolding may_join_lem
-tested a b = refl
-
 pub book-asks : (a b : State) → Sound a → Sound b → may_join_lem a b ≡ true →
     SoundBook a.book × SoundBook b.book × (a.book.header.loans + b.book.header.loans ≤ 1000000)
     × (a.book.sums.counts.other + b.book.sums.counts.other ≤ 100000)
@@ -68,34 +72,16 @@ book-asks a b x y e =
 pub lines_fit : (a b : Book) → SoundBook a → SoundBook b → a.sums.counts.other + b.sums.counts.other + a.indexed < 2 ^ 64
 lines_fit a b x y = omega (arith, x.other, y.other)
 
--- What `join` gives: its answer and the four tables
-abbrev Gives : State → State → Joined → (rates cells index : List ℕ) → (marks : List (List ℕ)) → Type 0
-Gives a b r rates cells index marks =
-    (r ≡ joined_of (joining a b)) × ((rates ≡ (joining a b).state.rates) × ((cells ≡ (joining a b).state.cells) × ((index ≡ (joining a b).state.index)
-    × ((marks ≡ (joining a b).state.marks) × Sound (state_at r.book rates cells index marks)))))
+-- What `join` gives: its answer and the book
+module _ (a b : State) (x : Sound a) (y : Sound b) where
+  abbrev Gives : ℕ → State → Type 0
+  Gives n s = (record { refusal = n; state = s } ≡ joining a b) × Sound s
 
-module _ (a b : State) (x : Sound a) (y : Sound b) {r : Joined} {rates cells index : List ℕ} {marks : List (List ℕ)} where
-  gives : record { refusal = r.refusal; state = state_at r.book rates cells index marks } ≡ joining a b → Gives a b r rates cells index marks
-  gives e = (
-    ap joined_of e,
-    (
-      ap (λ (z : Answer). z.state.rates) e,
-      (
-        ap (λ (z : Answer). z.state.cells) e,
-        (
-          ap (λ (z : Answer). z.state.index) e,
-          (ap (λ (z : Answer). z.state.marks) e, subst (λ (z : Answer). Sound z.state) (sym e) (joining-sound a b x y)),
-        ),
-      ),
-    ),
-  )
+  gives : {n : ℕ} {s : State} → record { refusal = n; state = s } ≡ joining a b → Gives n s
+  gives e = (e, subst (λ (z : Answer). Sound z.state) (sym e) (joining-sound a b x y))
 
-  pub gives-joined : may_join_lem a b ≡ true → r.refusal ≡ 0 → r.book ≡ (joined_state a b).book → rates ≡ a.rates → cells ≡ added_cells a.cells b.cells →
-      index ≡ a.index → marks ≡ no_marks → Gives a b r rates cells index marks
-  gives-joined t n e f g h m =
-      gives ((λ i. record { refusal = n i; state = state_at (e i) (f i) (g i) (h i) (m i) }) ∙ sym (joined-when a b t))
+  pub gives-joined : may_join_lem a b ≡ true → {s : State} → s ≡ joined_state a b → Gives 0 s
+  gives-joined t f = gives ((λ i. record { refusal = 0; state = f i }) ∙ sym (joined-when a b t))
 
-  pub gives-refused : may_join_lem a b ≡ false → r.refusal ≡ 16 → r.book ≡ empty_book zero_header → rates ≡ built_in_rates_lem → cells ≡ empty_cells →
-      index ≡ empty_index → marks ≡ no_marks → Gives a b r rates cells index marks
-  gives-refused t n e f g h m =
-      gives ((λ i. record { refusal = n i; state = state_at (e i) (f i) (g i) (h i) (m i) }) ∙ sym (refused-when a b t))
+  pub gives-refused : may_join_lem a b ≡ false → {s : State} → s ≡ empty_state refused_terms → Gives 16 s
+  gives-refused t f = gives ((λ i. record { refusal = 16; state = f i }) ∙ sym (refused-when a b t))

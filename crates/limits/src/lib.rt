@@ -4,23 +4,22 @@
 
 ghost use Rattle.std.specs.Prelude.{◌≡◌, leb};
 ghost use Rattle.book_model.specs.Accepted.{most_other, loan_beyond_lem};
-ghost use Rattle.book_model.specs.Calls.{counts_of, lacks_lines, closing_refusal_lem, SoundBook};
+ghost use Rattle.book_model.specs.Calls.{told, counts_of, lacks_lines, closing_refusal_lem, SoundBook};
 
 use book_model::Book;
 use figures::Counts;
-use line_forms::Header;
+use line_forms::{Header, Refusal};
 use loan_charge::Score;
 
 // At most so many lines of a book are not loans.
 pub const MOST_OTHER: u64 = 100000;
 
 // Whether so many lines that are not loans are taken that no more are: index lines count among them.
-pub fn is_full(b: Book) -> bool
-    requires { SoundBook b }
-    ensures { result ≡ leb most_other (counts_of b).other }
+pub fn is_full(b: &Book) -> bool
+    requires { SoundBook b.now }
+    ensures { result ≡ leb most_other (counts_of b.now).other }
 {
-    let sums = b.sums;
-    MOST_OTHER <= sums.counts.other + b.indexed
+    MOST_OTHER <= b.sums.counts.other + b.indexed
 }
 
 // Whether a loan is beyond the header's loans, one without a score beyond its unscored, or one with a fresh score beyond its fresh.
@@ -33,26 +32,25 @@ pub fn loan_beyond(h: Header, counts: Counts, score: Score) -> bool
 }
 
 // Whether the loans are fewer than the header counts, those without a score, or those with a fresh one.
-pub fn is_short(b: Book) -> bool
-    ensures { result ≡ lacks_lines b.header b.sums.counts }
+pub fn is_short(b: &Book) -> bool
+    ensures { result ≡ lacks_lines b.now.header b.now.sums.counts }
 {
     let header = b.header;
-    let sums = b.sums;
-    let counts = sums.counts;
+    let counts = b.sums.counts;
     (counts.loans < header.loans)
         | (counts.unscored < header.unscored)
         | (counts.fresh < header.fresh)
 }
 
-// The refusal of a closing that asks for a buffer of so many bytes, 0 for none: 6 where the book is short, then 9.
-pub fn closing_refusal(b: Book, least: usize, size: usize) -> u64
-    ensures { result ≡ closing_refusal_lem least b.header b.sums.counts size }
+// Whether a book may be closed into a buffer of `size` bytes, of which `least` are asked: 6 where the book is short, then 9.
+pub fn may_close(b: &Book, least: usize, size: usize) -> Result<(), Refusal>
+    ensures { told result ≡ closing_refusal_lem least b.now.header b.now.sums.counts size }
 {
     if is_short(b) {
-        return 6;
+        return Err(Refusal::LoansMissing);
     }
     if size < least {
-        return 9;
+        return Err(Refusal::SmallBuffer);
     }
-    0
+    Ok(())
 }

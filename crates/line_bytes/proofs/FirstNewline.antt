@@ -1,14 +1,14 @@
 -- Where the first newline stands. Assumes nothing.
 use mathlib.Core.Path.{◌≡◌, refl, sym, ◌∙◌, ap}
-use mathlib.Core.Bool.{Bool, true, false, not, ◌&&◌, true≢false, false≢true}
+use mathlib.Core.Bool.{Bool, true, false, not, ◌&&◌, true≢false}
 use mathlib.Core.List.{List, [], ◌∷◌, ◌++◌}
-use Prim.Native.Nat.{ℕ, suc, ◌+◌, ◌≤◌, ◌<◌}
+use Prim.Native.Nat.{ℕ, zero, suc, ◌≤◌, ◌<◌}
 use native.Mathlib.Omega.{arith}
-use native.Mathlib.Numerals.{add-one}
 use lib.Dec.{eqb}
-use lib.ListN.{length, take, drop, get_or, take-append-drop, drop_of_length-le}
-use lib.Seq.{take-suc, take_all, drop-drop, drop-append-le, drop-cons, length-take-le}
-use borrow.Author.Tests.{eqb-true, eq-eqb, ne_eqb}
+use lib.ListN.{length, take, drop, get_or}
+use lib.Seq.{take_all, drop-append-le}
+use borrow.Author.Tests.{eqb-true}
+use Rattle.memchr.specs.Find.{Nowhere, NoneBefore, Passes, is_byte}
 use Rattle.line_bytes.specs.LineBytes.{newline, unbroken, index_after, index_of}
 
 pub unbroken-append : (a b : List ℕ) → unbroken (a ++ b) ≡ (unbroken a && unbroken b)
@@ -20,19 +20,8 @@ unbroken-append (x ∷ a) b = go (eqb x newline) (unbroken-append a b)
     go true ih = refl
     go false ih = ih
 
--- nothing that is unbroken holds the first newline
-index-skips : (a b : List ℕ) → unbroken a ≡ true → index_of newline (a ++ b) ≡ length a + index_of newline b
-unfolding unbroken index_of index_after
-index-skips [] b e = sym (omega arith)
-index-skips (x ∷ a) b e = go (eqb x newline) e (index-skips a b)
-  where
-    go : (t : Bool) → (not t && unbroken a) ≡ true → (unbroken a ≡ true → index_of newline (a ++ b) ≡ length a + index_of newline b) →
-        index_after t (index_of newline (a ++ b)) ≡ suc (length a) + index_of newline b
-    go true k ih = absurd (false≢true k)
-    go false k ih = omega (arith, ih k)
-
 pub index-unbroken : (s : List ℕ) → unbroken (take (index_of newline s) s) ≡ true
-unfolding unbroken index_of index_after
+unfolding unbroken index_of
 index-unbroken [] = refl
 index-unbroken (x ∷ s) = go (eqb x newline) refl (index-unbroken s)
   where
@@ -41,7 +30,7 @@ index-unbroken (x ∷ s) = go (eqb x newline) refl (index-unbroken s)
     go false e ih = rw e ih
 
 pub index_at : (s : List ℕ) → index_of newline s < length s → get_or s (index_of newline s) 0 ≡ newline
-unfolding index_of index_after
+unfolding index_of
 index_at [] h = absurd (omega arith)
 index_at (x ∷ s) h = go (eqb x newline) refl h (index_at s)
   where
@@ -49,34 +38,6 @@ index_at (x ∷ s) h = go (eqb x newline) refl h (index_at s)
         (index_of newline s < length s → get_or s (index_of newline s) 0 ≡ newline) → get_or (x ∷ s) (index_after t (index_of newline s)) 0 ≡ newline
     go true e k ih = eqb-true x newline e
     go false e k ih = ih (omega arith)
-
-pub index-inside : (s : List ℕ) → index_of newline s ≤ length s
-unfolding index_of index_after
-index-inside [] = omega arith
-index-inside (x ∷ s) = go (eqb x newline) (index-inside s)
-  where
-    go : (t : Bool) → index_of newline s ≤ length s → index_after t (index_of newline s) ≤ suc (length s)
-    go true ih = omega arith
-    go false ih = omega arith
-
--- one byte more of a block
-pub unbroken-next : (block : List ℕ) (i : ℕ) → i < length block →
-    unbroken (take (i + 1) block) ≡ (unbroken (take i block) && (not (eqb (get_or block i 0) newline)))
-unfolding unbroken
-unbroken-next block i h = rw (add-one i, take-suc block i 0 h) (unbroken-append (take i block) (get_or block i 0 ∷ []) ∙ go (not (eqb (get_or block i 0) newline)))
-  where
-    go : (t : Bool) → (unbroken (take i block) && (t && true)) ≡ (unbroken (take i block) && t)
-    go true = refl
-    go false = refl
-
--- a block in which no line ends is skipped
-pub block-skipped : (chunk : List ℕ) (i n : ℕ) → n ≤ length (drop i chunk) → unbroken (take n (drop i chunk)) ≡ true →
-    i + index_of newline (drop i chunk) ≡ (i + n) + index_of newline (drop (i + n) chunk)
-block-skipped chunk i n h e =
-    let k : index_of newline (drop i chunk) ≡ n + index_of newline (drop (i + n) chunk) =
-    ap (index_of newline) (sym (take-append-drop n (drop i chunk))) ∙ index-skips (take n (drop i chunk)) (drop n (drop i chunk)) e
-    ∙ rw (length-take-le n (drop i chunk) h, drop-drop n i chunk) refl in
-    omega arith
 
 -- bytes in which no newline is found are unbroken
 pub none_found : (bytes : List ℕ) (end : ℕ) → end ≡ index_of newline bytes → length bytes ≤ end → unbroken bytes ≡ true
@@ -92,18 +53,30 @@ newline-last w rest h e = go (unbroken (drop rest w)) (sym (unbroken-append (dro
     go true k = true≢false (sym k)
     go false k = true≢false (sym k)
 
--- at a newline none stands before it,
-pub index_here : (s : List ℕ) (i : ℕ) → i < length s → get_or s i 0 ≡ newline → index_of newline (drop i s) ≡ 0
+-- The first byte that is a newline is where it stands first,
+pub index-first : (s : List ℕ) (k : ℕ) → NoneBefore (Passes (is_byte newline) s) 0 (length s) k → Passes (is_byte newline) s k → index_of newline s ≡ k
 unfolding index_of
-index_here s i h e = rw (drop-cons s i 0 h) (rw (eq-eqb (get_or s i 0) newline e) refl)
+index-first [] k n p = absurd (omega (arith, n.high))
+index-first (x ∷ s) zero n p = rw p refl
+index-first (x ∷ s) (suc k) n p =
+    let first : eqb x newline ≡ false = go (eqb x newline) refl in
+    rw first (ap suc (index-first s k later p))
+  where
+    go : (t : Bool) → eqb x newline ≡ t → t ≡ false
+    go true e = absurd (n.before 0 (omega arith) (omega arith) e)
+    go false e = refl
 
--- and at another byte it stands as far from the next, one place on.
-pub index_later : (s : List ℕ) (i : ℕ) → i < length s → (get_or s i 0 ≡ newline → ⊥) →
-    i + index_of newline (drop i s) ≡ (i + 1) + index_of newline (drop (i + 1) s)
-unfolding index_of
-index_later s i h n = rw (add-one i, drop-cons s i 0 h) (rw (ne_eqb (get_or s i 0) newline n) (omega arith))
+    later : NoneBefore (Passes (is_byte newline) s) 0 (length s) k
+    later = record { low = omega arith; high = omega (arith, n.high); before = λ i a b. n.before (suc i) (omega arith) (omega arith) }
 
--- at the end there is none
-pub index_end : (s : List ℕ) (i : ℕ) → length s ≤ i → index_of newline (drop i s) ≡ 0
+-- and where none is, the length.
+pub index-nowhere : (s : List ℕ) → Nowhere (Passes (is_byte newline) s) 0 (length s) → index_of newline s ≡ length s
 unfolding index_of
-index_end s i h = rw (drop_of_length-le s h) refl
+index-nowhere [] n = refl
+index-nowhere (x ∷ s) n =
+    let first : eqb x newline ≡ false = go (eqb x newline) refl in
+    rw first (ap suc (index-nowhere s (λ i a b. n (suc i) (omega arith) (omega arith))))
+  where
+    go : (t : Bool) → eqb x newline ≡ t → t ≡ false
+    go true e = absurd (n 0 (omega arith) (omega arith) e)
+    go false e = refl

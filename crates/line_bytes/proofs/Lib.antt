@@ -1,2 +1,2 @@
 pub mod FirstNewline
-pub mod Tail
+pub mod Held

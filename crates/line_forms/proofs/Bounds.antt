@@ -21,7 +21,7 @@ use Rattle.line_forms.specs.declared.IndexValue.{IndexValue}
 use Rattle.line_forms.specs.declared.Content.TheVariants.{Loan as loan, Policy as policy, Derivative as derivative, Asset as asset, Amount as amount, Index as index}
 use Rattle.line_forms.specs.declared.Line.TheVariants.{Loan as LoanLine, Policy as PolicyLine, Derivative as DerivativeLine}
 use Rattle.line_forms.specs.declared.Line.TheVariants.{Asset as AssetLine, Amount as AmountLine, Index as IndexLine}
-use Rattle.line_forms.specs.declared.HeaderLine.TheVariants.{Header as HeaderRead}
+use Rattle.std.specs.Prelude.{Ok}
 use Rattle.line_forms.proofs.Bytes.{and_both, within-bounds}
 use Rattle.line_forms.proofs.LineLaws.{line-accepted}
 use Rattle.line_forms.proofs.HeaderLaws.{header-accepted}
@@ -39,7 +39,7 @@ pub record HeaderBounds (h : Header) : Type 0 where
   pub held : Between 0 10000000000000 h.held
   pub scores : h.unscored + h.fresh ≤ h.loans
 
-pub header-bounds : (s : List ℕ) (h : Header) → header_of s ≡ HeaderRead h → HeaderBounds h
+pub header-bounds : (s : List ℕ) (h : Header) → header_of s ≡ Ok h → HeaderBounds h
 unfolding in_range header_in_range
 header-bounds s h e =
     let k = (header-accepted s h).0 e in

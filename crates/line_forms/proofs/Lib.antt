@@ -15,5 +15,6 @@ pub mod Numerals
 pub mod Positions
 pub mod RangeEnds
 pub mod Readers
+pub mod Refusals
 pub mod ScoreLaws
 pub mod Sizes

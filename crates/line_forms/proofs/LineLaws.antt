@@ -17,18 +17,21 @@ use Rattle.line_forms.specs.declared.Content.TheVariants.{Asset as asset, Amount
 use Rattle.line_forms.specs.declared.Line.{Line}
 use Rattle.line_forms.specs.declared.Line.TheVariants.{Loan as LoanLine, Policy as PolicyLine, Derivative as DerivativeLine, Asset as AssetLine}
 use Rattle.line_forms.specs.declared.Line.TheVariants.{Amount as AmountLine, Index as IndexLine, Mark as MarkRead, Refusal}
+use Rattle.line_forms.specs.declared.refusal.Refusal.{Refusal as Reason}
+use Rattle.line_forms.specs.declared.refusal.Refusal.TheVariants.{LongLine, NoForm as Formless, OutOfRange, Misplaced}
+use Rattle.line_forms.specs.Refusals.{number_of}
 use Rattle.line_forms.proofs.AnswerLaws.{answer-long, answer-none, answer-held, answer-cases}
 
 -- The rules of line reading, one for each answer.
 data Answer (s : List ℕ) : Line → Type 0 where
-  long : 240 < length s → Answer s (Refusal 1)
-  formless : length s ≤ 240 → NoBytes s → Answer s (Refusal 2)
-  head : (h : Header) → Writable (header h) → s ≡ bytes_of (header h) → Answer s (Refusal 7)
-  out : (c : Content) → AfterHeader c → Writable c → in_range c ≡ false → s ≡ bytes_of c → Answer s (Refusal 3)
+  long : 240 < length s → Answer s (Refusal LongLine)
+  formless : length s ≤ 240 → NoBytes s → Answer s (Refusal Formless)
+  head : (h : Header) → Writable (header h) → s ≡ bytes_of (header h) → Answer s (Refusal Misplaced)
+  out : (c : Content) → AfterHeader c → Writable c → in_range c ≡ false → s ≡ bytes_of c → Answer s (Refusal OutOfRange)
   held : (c : Content) → AfterHeader c → Writable c → in_range c ≡ true → s ≡ bytes_of c → Answer s (line_with c)
 
 -- the answer for data after the header
-judged : (s : List ℕ) (c : Content) → AfterHeader c → Writable c → s ≡ bytes_of c → (b : Bool) → in_range c ≡ b → Answer s (pick b (line_with c) (Refusal 3))
+judged : (s : List ℕ) (c : Content) → AfterHeader c → Writable c → s ≡ bytes_of c → (b : Bool) → in_range c ≡ b → Answer s (pick b (line_with c) (Refusal OutOfRange))
 judged s c a w e true r = held c a w r e
 judged s c a w e false r = out c a w r e
 
@@ -47,10 +50,10 @@ answer-for s NoForm w e = absurd w
 -- the answer obeys a rule
 answered : (s : List ℕ) → Answer s (line_of s)
 unfolding line_of line_for
-answered s = answer-cases (Refusal 1) line_for s (λ r. Answer s r) (λ l. long l) (λ l n. formless l n) (λ c w e. answer-for s c w e)
+answered s = answer-cases (Refusal LongLine) line_for s (λ r. Answer s r) (λ l. long l) (λ l n. formless l n) (λ c w e. answer-for s c w e)
 
 -- a rule gives its answer
-line-range : (c : Content) → AfterHeader c → line_for c ≡ pick (in_range c) (line_with c) (Refusal 3)
+line-range : (c : Content) → AfterHeader c → line_for c ≡ pick (in_range c) (line_with c) (Refusal OutOfRange)
 unfolding line_for in_range
 line-range (header h) a = absurd a
 line-range (loan x) a = refl
@@ -64,12 +67,12 @@ line-range NoForm a = absurd a
 
 read_as : (s : List ℕ) (c : Content) → Writable c → s ≡ bytes_of c → line_of s ≡ line_for c
 unfolding line_of
-read_as s c w e = answer-held (Refusal 1) line_for s c w e
+read_as s c w e = answer-held (Refusal LongLine) line_for s c w e
 
 answers : (s : List ℕ) (r : Line) → Answer s r → line_of s ≡ r
 unfolding line_of line_for
-answers s r (long l) = answer-long (Refusal 1) line_for s l
-answers s r (formless l n) = answer-none (Refusal 1) line_for s l n
+answers s r (long l) = answer-long (Refusal LongLine) line_for s l
+answers s r (formless l n) = answer-none (Refusal LongLine) line_for s l n
 answers s r (head h w e) = read_as s (header h) w e
 answers s r (out c a w o e) = read_as s c w e ∙ line-range c a ∙ rw o
 answers s r (held c a w o e) = read_as s c w e ∙ line-range c a ∙ rw o
@@ -149,16 +152,16 @@ line_reading s = record {
     λ k. rw (answers s (line_with c) (held c a k.0 k.1 k.2)) (accepted-number c a, accepted-data c a),
   );
   numbers = numbers s (line_of s) (answered s);
-  refused1 = (λ e. rule1 s (line_of s) (answered s) e, λ l. ap line_refusal (answers s (Refusal 1) (long l)));
+  refused1 = (λ e. rule1 s (line_of s) (answered s) e, λ l. ap line_refusal (answers s (Refusal LongLine) (long l)));
   refused2 =
-      (λ e. rule2 s (line_of s) (answered s) e, λ k. ap line_refusal (answers s (Refusal 2) (formless k.0 k.1)));
+      (λ e. rule2 s (line_of s) (answered s) e, λ k. ap line_refusal (answers s (Refusal Formless) (formless k.0 k.1)));
   refused7 = (
     λ e. rule7 s (line_of s) (answered s) e,
-    λ k. ap line_refusal (answers s (Refusal 7) (head k.0 k.1 k.2)),
+    λ k. ap line_refusal (answers s (Refusal Misplaced) (head k.0 k.1 k.2)),
   );
   refused3 = (
     λ e. rule3 s (line_of s) (answered s) e,
-    λ k. ap line_refusal (answers s (Refusal 3) (out k.0 k.1 k.2 k.3 k.4)),
+    λ k. ap line_refusal (answers s (Refusal OutOfRange) (out k.0 k.1 k.2 k.3 k.4)),
   );
 }
 
@@ -169,8 +172,8 @@ line-accepted s c a = (
   λ k. answers s (line_with c) (held c a k.0 k.1 k.2),
 )
 
--- A refusal's number tells the answer, and there is no other number.
-pub refused-line : (r : Line) (n : ℕ) → line_refusal r ≡ n → (n ≡ 0 → ⊥) → r ≡ Refusal n
+-- A number that is not 0 is that of a refusal, and there is no other number.
+pub refused-line : (r : Line) (n : ℕ) → line_refusal r ≡ n → (n ≡ 0 → ⊥) → (q : Reason) × (r ≡ Refusal q) × (number_of q ≡ n)
 refused-line (LoanLine l) n e z = absurd (z (sym e))
 refused-line (PolicyLine p) n e z = absurd (z (sym e))
 refused-line (DerivativeLine d) n e z = absurd (z (sym e))
@@ -178,11 +181,11 @@ refused-line (AssetLine a) n e z = absurd (z (sym e))
 refused-line (AmountLine a) n e z = absurd (z (sym e))
 refused-line (IndexLine i) n e z = absurd (z (sym e))
 refused-line (MarkRead m) n e z = absurd (z (sym e))
-refused-line (Refusal m) n e z = ap Refusal e
+refused-line (Refusal q) n e z = (q, refl, e)
 
-pub line_numbers : (s : List ℕ) (n : ℕ) → line_of s ≡ Refusal n → (n ≡ 1) ⊎ (n ≡ 2) ⊎ (n ≡ 7) ⊎ (n ≡ 3)
-line_numbers s n e =
-    let same : n ≡ line_refusal (line_of s) = sym (ap line_refusal e) in
+pub line_numbers : (s : List ℕ) (q : Reason) → line_of s ≡ Refusal q → (number_of q ≡ 1) ⊎ (number_of q ≡ 2) ⊎ (number_of q ≡ 7) ⊎ (number_of q ≡ 3)
+line_numbers s q e =
+    let same : number_of q ≡ line_refusal (line_of s) = sym (ap line_refusal e) in
     ⊎_elim (λ k. absurd (subst (λ (r : Line). AfterHeader (line_content r)) e k.0))
     (⊎_elim (λ k. inl (same ∙ k)) (⊎_elim (λ k. inr (inl (same ∙ k))) (⊎_elim (λ k. inr (inr (inl (same ∙ k)))) (λ k. inr (inr (inr (same ∙ k)))))))
     (line_reading s).numbers

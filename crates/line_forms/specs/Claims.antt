@@ -1,8 +1,9 @@
 -- Demand 2 for one line: when, and only when, line reading and header reading give each of their answers (01, "Who can be turned down").
-use Rattle.std.specs.Prelude.{ℕ, ◌+◌, ◌≤◌, ◌<◌, true, false, List, ◌↔◌, ◌⊎◌, ◌≡◌, length}
+use Rattle.std.specs.Prelude.{ℕ, ◌+◌, ◌≤◌, ◌<◌, true, false, List, ◌↔◌, ◌⊎◌, ◌≡◌, length, Result, Ok, Err}
 use Rattle.line_forms.specs.Bytes.{all_within}
 use Rattle.line_forms.specs.Contents.{bytes_of, Writable, in_range}
 use Rattle.line_forms.specs.Names.{NameWritable, is_name, letters_of}
+use Rattle.line_forms.specs.Refusals.{number_of}
 use Rattle.line_forms.specs.Readings.{longest_line, header_of, content_of}
 use Rattle.line_forms.specs.declared.Header.{Header}
 use Rattle.line_forms.specs.declared.Content.{Content}
@@ -11,8 +12,8 @@ use Rattle.line_forms.specs.declared.Content.TheVariants.{Asset as asset, Amount
 use Rattle.line_forms.specs.declared.Line.{Line}
 use Rattle.line_forms.specs.declared.Line.TheVariants.{Loan as LoanLine, Policy as PolicyLine, Derivative as DerivativeLine}
 use Rattle.line_forms.specs.declared.Line.TheVariants.{Asset as AssetLine, Amount as AmountLine, Index as IndexLine, Mark as MarkRead, Refusal}
-use Rattle.line_forms.specs.declared.HeaderLine.{HeaderLine}
-use Rattle.line_forms.specs.declared.HeaderLine.TheVariants.{Header as HeaderRead, Refusal as HeaderRefusal}
+use Rattle.line_forms.specs.declared.refusal.Refusal.{Refusal as Reason}
+use Rattle.line_forms.specs.declared.refusal.Refusal.TheVariants.{NoForm as Formless, Misplaced}
 
 -- s is the bytes of data c
 pub record Shows (s : List ℕ) (c : Content) : Type 0 where
@@ -38,7 +39,7 @@ AfterHeader NoForm = ⊥
 
 -- line reading's answer that holds such data
 abbrev pub line_with : Content → Line
-line_with (header h) = Refusal 7
+line_with (header h) = Refusal Misplaced
 line_with (loan l) = LoanLine l
 line_with (policy p) = PolicyLine p
 line_with (derivative d) = DerivativeLine d
@@ -46,7 +47,7 @@ line_with (asset a) = AssetLine a
 line_with (amount a) = AmountLine a
 line_with (index i) = IndexLine i
 line_with (mark m) = MarkRead m
-line_with NoForm = Refusal 2
+line_with NoForm = Refusal Formless
 
 -- 01: "If an answer is an enum, a definition gives this paper's number and values for each of its cases. The promises use this definition."
 -- These are the definitions for line reading's and header reading's answers: the number of the refusal, 0 where the line is accepted, ..
@@ -58,11 +59,11 @@ line_refusal (AssetLine a) = 0
 line_refusal (AmountLine a) = 0
 line_refusal (IndexLine i) = 0
 line_refusal (MarkRead m) = 0
-line_refusal (Refusal n) = n
+line_refusal (Refusal r) = number_of r
 
-abbrev pub header_refusal : HeaderLine → ℕ
-header_refusal (HeaderRead h) = 0
-header_refusal (HeaderRefusal n) = n
+abbrev pub header_refusal : Result Header Reason → ℕ
+header_refusal (Ok h) = 0
+header_refusal (Err r) = number_of r
 
 -- .. and the values of an accepted line.
 abbrev pub line_content : Line → Content
@@ -73,11 +74,11 @@ line_content (AssetLine a) = asset a
 line_content (AmountLine a) = amount a
 line_content (IndexLine i) = index i
 line_content (MarkRead m) = mark m
-line_content (Refusal n) = NoForm
+line_content (Refusal r) = NoForm
 
-abbrev pub header_content : HeaderLine → Content
-header_content (HeaderRead h) = header h
-header_content (HeaderRefusal n) = NoForm
+abbrev pub header_content : Result Header Reason → Content
+header_content (Ok h) = header h
+header_content (Err r) = NoForm
 
 -- a line that is no form's bytes
 abbrev pub NoBytes : List ℕ → Type 0
@@ -93,7 +94,7 @@ pub record LineReading (s : List ℕ) (r : Line) : Type 0 where
   pub numbers : (AfterHeader (line_content r) × (line_refusal r ≡ 0)) ⊎ (line_refusal r ≡ 1) ⊎ (line_refusal r ≡ 2) ⊎ (line_refusal r ≡ 7) ⊎ (line_refusal r ≡ 3)
 
 -- what the answer r for a header line s says of it
-pub record HeaderReading (s : List ℕ) (r : HeaderLine) : Type 0 where
+pub record HeaderReading (s : List ℕ) (r : Result Header Reason) : Type 0 where
   pub accepted :
       (h : Header) →
       ((header_refusal r ≡ 0) × (header_content r ≡ header h)) ↔
@@ -113,7 +114,7 @@ pub record HeaderReading (s : List ℕ) (r : HeaderLine) : Type 0 where
 pub record BytesRead : Type 0 where
   pub short : (c : Content) → Writable c → length (bytes_of c) ≤ 196
   pub back : (c : Content) → Writable c → content_of (bytes_of c) ≡ c
-  pub header_back : (h : Header) → in_range (header h) ≡ true → h.unscored + h.fresh ≤ h.loans → header_of (bytes_of (header h)) ≡ HeaderRead h
+  pub header_back : (h : Header) → in_range (header h) ≡ true → h.unscored + h.fresh ≤ h.loans → header_of (bytes_of (header h)) ≡ Ok h
 
 -- 02, L6: the numbers from 1 to most_name are the names of 1 to 12 lower-case letters, one each.
 pub record NameNumbers : Type 0 where

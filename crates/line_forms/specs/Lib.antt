@@ -8,3 +8,4 @@ pub mod Numerals
 pub mod Parsing
 pub mod RangeEnds
 pub mod Readings
+pub mod Refusals

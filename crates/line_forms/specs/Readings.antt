@@ -1,5 +1,5 @@
 -- What a line holds, as a function of its bytes, and the answers of line reading and header reading.
-use Rattle.std.specs.Prelude.{ℕ, ◌+◌, Bool, true, false, List, ltb, eqb, length}
+use Rattle.std.specs.Prelude.{ℕ, ◌+◌, Bool, true, false, List, ltb, eqb, length, Result, Ok, Err}
 use Rattle.exact.specs.Text.{text}
 use Rattle.exact.specs.Choice.{pick}
 use Rattle.line_forms.specs.Forms.{Values, choices_of}
@@ -27,8 +27,8 @@ use Rattle.line_forms.specs.declared.Content.TheVariants.{Asset as asset, Amount
 use Rattle.line_forms.specs.declared.Line.{Line}
 use Rattle.line_forms.specs.declared.Line.TheVariants.{Loan as LoanLine, Policy as PolicyLine, Derivative as DerivativeLine}
 use Rattle.line_forms.specs.declared.Line.TheVariants.{Asset as AssetLine, Amount as AmountLine, Index as IndexLine, Mark as MarkRead, Refusal}
-use Rattle.line_forms.specs.declared.HeaderLine.{HeaderLine}
-use Rattle.line_forms.specs.declared.HeaderLine.TheVariants.{Header as HeaderRead, Refusal as HeaderRefusal}
+use Rattle.line_forms.specs.declared.refusal.Refusal.{Refusal as Reason}
+use Rattle.line_forms.specs.declared.refusal.Refusal.TheVariants.{LongLine, NoForm as Formless, OutOfRange, OverCounted, Misplaced}
 
 -- The data that a form's values make.
 
@@ -156,16 +156,16 @@ held_as name s =
 unfoldable pub content_of : List ℕ → Content
 content_of s = held_as (place_of (letters_at s 1) names) s
 
--- The answer for what a line after the header holds: the number of 01's refusal, or the line's values (01, "Who can be turned down").
+-- The answer for what a line after the header holds: 01's refusal, or the line's values (01, "Who can be turned down").
 unfoldable pub line_for : Content → Line
-line_for NoForm = Refusal 2
-line_for (header h) = Refusal 7
-line_for (loan l) = pick (loan_in_range l) (LoanLine l) (Refusal 3)
-line_for (policy p) = pick (policy_in_range p) (PolicyLine p) (Refusal 3)
-line_for (derivative d) = pick (derivative_in_range d) (DerivativeLine d) (Refusal 3)
-line_for (asset a) = pick (asset_in_range a) (AssetLine a) (Refusal 3)
-line_for (amount a) = pick (amount_in_range a) (AmountLine a) (Refusal 3)
-line_for (index i) = pick (index_in_range i) (IndexLine i) (Refusal 3)
+line_for NoForm = Refusal Formless
+line_for (header h) = Refusal Misplaced
+line_for (loan l) = pick (loan_in_range l) (LoanLine l) (Refusal OutOfRange)
+line_for (policy p) = pick (policy_in_range p) (PolicyLine p) (Refusal OutOfRange)
+line_for (derivative d) = pick (derivative_in_range d) (DerivativeLine d) (Refusal OutOfRange)
+line_for (asset a) = pick (asset_in_range a) (AssetLine a) (Refusal OutOfRange)
+line_for (amount a) = pick (amount_in_range a) (AmountLine a) (Refusal OutOfRange)
+line_for (index i) = pick (index_in_range i) (IndexLine i) (Refusal OutOfRange)
 line_for (mark m) = MarkRead m
 
 -- 01: "A line is at most 240 bytes, without its newline."
@@ -174,21 +174,21 @@ longest_line = 240
 
 -- Feeding tests 1, 2, 7, 3.
 unfoldable pub line_of : List ℕ → Line
-line_of s = pick (ltb longest_line (length s)) (Refusal 1) (line_for (content_of s))
+line_of s = pick (ltb longest_line (length s)) (Refusal LongLine) (line_for (content_of s))
 
 -- The answer for what a header line holds.
-unfoldable pub header_for_lem : Content → HeaderLine
-header_for_lem NoForm = HeaderRefusal 2
-header_for_lem (loan l) = HeaderRefusal 7
-header_for_lem (policy p) = HeaderRefusal 7
-header_for_lem (derivative d) = HeaderRefusal 7
-header_for_lem (asset a) = HeaderRefusal 7
-header_for_lem (amount a) = HeaderRefusal 7
-header_for_lem (index i) = HeaderRefusal 7
-header_for_lem (mark m) = HeaderRefusal 7
+unfoldable pub header_for_lem : Content → Result Header Reason
+header_for_lem NoForm = Err Formless
+header_for_lem (loan l) = Err Misplaced
+header_for_lem (policy p) = Err Misplaced
+header_for_lem (derivative d) = Err Misplaced
+header_for_lem (asset a) = Err Misplaced
+header_for_lem (amount a) = Err Misplaced
+header_for_lem (index i) = Err Misplaced
+header_for_lem (mark m) = Err Misplaced
 header_for_lem (header h) =
-    pick (header_in_range h) (pick (ltb h.loans (h.unscored + h.fresh)) (HeaderRefusal 4) (HeaderRead h)) (HeaderRefusal 3)
+    pick (header_in_range h) (pick (ltb h.loans (h.unscored + h.fresh)) (Err OverCounted) (Ok h)) (Err OutOfRange)
 
 -- Opening tests 1, 2, 7, 3, 4.
-unfoldable pub header_of : List ℕ → HeaderLine
-header_of s = pick (ltb longest_line (length s)) (HeaderRefusal 1) (header_for_lem (content_of s))
+unfoldable pub header_of : List ℕ → Result Header Reason
+header_of s = pick (ltb longest_line (length s)) (Err LongLine) (header_for_lem (content_of s))

@@ -2,18 +2,20 @@
 #![tactic(auto)]
 
 pub mod ranges;
+mod refusal;
 
 ghost use Rattle.std.specs.Prelude.{◌≡◌};
 ghost use Rattle.line_forms.specs.Contents.{on_aged_table_lem};
 
 use fixed_point::Signed;
 use loan_charge::Score;
+pub use refusal::Refusal;
 
 // A longer line is refused as 1.
 pub const LONGEST_LINE: usize = 240;
 
 // The counts of loans, of loans without a score and of loans with a fresh one, and the liabilities held for home loans in cents.
-#[derive(Clone, Copy)]
+#[derive(Clone, Copy, Default)]
 pub struct Header {
     pub loans: u64,
     pub unscored: u64,
@@ -127,7 +129,7 @@ pub enum Content {
     NoForm,
 }
 
-// The answer for a line after the header. A refusal has the number of 01, "Who can be turned down".
+// The answer for a line after the header.
 #[derive(Clone, Copy)]
 pub enum Line {
     Loan(Loan),
@@ -137,14 +139,7 @@ pub enum Line {
     Amount(Amount),
     Index(IndexValue),
     Mark(MarkLine),
-    Refusal(u64),
-}
-
-// The answer for a header line.
-#[derive(Clone, Copy)]
-pub enum HeaderLine {
-    Header(Header),
-    Refusal(u64),
+    Refusal(Refusal),
 }
 
 // Whether the aged table serves for a book's scores. Nine tenths of the loans, rounded up, are the loans less a tenth, rounded down: so

@@ -2,33 +2,26 @@
 #![tactic(auto)]
 
 ghost use Rattle.std.specs.Prelude.{◌≡◌, ◌+◌, ltb};
-ghost use Rattle.exact.specs.Choice.{pick};
-ghost use Rattle.line_forms.specs.declared.Line.TheVariants.{Refusal};
 ghost use Rattle.line_forms.specs.Claims.{LineReading, HeaderReading};
 ghost use Rattle.line_forms.specs.Readings.{line_of, line_for, header_of, header_for_lem};
 
-use line_forms::{Content, Header, HeaderLine, LONGEST_LINE, Line, ranges};
+use line_forms::{Content, Header, LONGEST_LINE, Line, Refusal, ranges};
 
-// The line, or the refusal where its numbers are not in range.
-fn ranged(ok: bool, l: Line) -> Line
-    ensures { result ≡ pick ok l (Refusal 3) }
-{
-    if ok { l } else { Line::Refusal(3) }
-}
-
+#[tactic(auto, unfolding(line_forms::specs::Readings::line_for))]
 fn line_for(c: Content) -> Line
     ensures { result ≡ line_for c }
 {
     match c {
-        Content::NoForm => Line::Refusal(2),
-        Content::Header(_) => Line::Refusal(7),
-        Content::Loan(l) => ranged(ranges::loan(l), Line::Loan(l)),
-        Content::Policy(p) => ranged(ranges::policy(p), Line::Policy(p)),
-        Content::Derivative(d) => ranged(ranges::derivative(d), Line::Derivative(d)),
-        Content::Asset(a) => ranged(ranges::asset(a), Line::Asset(a)),
-        Content::Amount(a) => ranged(ranges::amount(a), Line::Amount(a)),
-        Content::Index(i) => ranged(ranges::index(i), Line::Index(i)),
+        Content::NoForm => Line::Refusal(Refusal::NoForm),
+        Content::Header(_) => Line::Refusal(Refusal::Misplaced),
+        Content::Loan(l) if ranges::loan(l) => Line::Loan(l),
+        Content::Policy(p) if ranges::policy(p) => Line::Policy(p),
+        Content::Derivative(d) if ranges::derivative(d) => Line::Derivative(d),
+        Content::Asset(a) if ranges::asset(a) => Line::Asset(a),
+        Content::Amount(a) if ranges::amount(a) => Line::Amount(a),
+        Content::Index(i) if ranges::index(i) => Line::Index(i),
         Content::Mark(m) => Line::Mark(m),
+        _ => Line::Refusal(Refusal::OutOfRange),
     }
 }
 
@@ -38,7 +31,7 @@ pub fn read_line(line: &[u8]) -> Line
     ensures reading { LineReading line.now result }
 {
     if LONGEST_LINE < line.len() {
-        return Line::Refusal(1);
+        return Line::Refusal(Refusal::LongLine);
     }
     line_for(line_contents::content(line))
 }
@@ -53,37 +46,32 @@ fn over_counted(h: Header) -> bool
     h.loans - h.unscored < h.fresh
 }
 
-fn header_for(c: Content) -> HeaderLine
+#[tactic(auto, unfolding(line_forms::specs::Readings::header_for_lem))]
+fn header_for(c: Content) -> Result<Header, Refusal>
     ensures { result ≡ header_for_lem c }
 {
     match c {
-        Content::NoForm => HeaderLine::Refusal(2),
+        Content::NoForm => Err(Refusal::NoForm),
         Content::Header(h) => {
             if !ranges::header(h) {
-                return HeaderLine::Refusal(3);
+                return Err(Refusal::OutOfRange);
             }
             if over_counted(h) {
-                return HeaderLine::Refusal(4);
+                return Err(Refusal::OverCounted);
             }
-            HeaderLine::Header(h)
+            Ok(h)
         }
-        Content::Loan(_) => HeaderLine::Refusal(7),
-        Content::Policy(_) => HeaderLine::Refusal(7),
-        Content::Derivative(_) => HeaderLine::Refusal(7),
-        Content::Asset(_) => HeaderLine::Refusal(7),
-        Content::Amount(_) => HeaderLine::Refusal(7),
-        Content::Index(_) => HeaderLine::Refusal(7),
-        Content::Mark(_) => HeaderLine::Refusal(7),
+        _ => Err(Refusal::Misplaced),
     }
 }
 
 // The line that opens a book.
-pub fn read_header(line: &[u8]) -> HeaderLine
+pub fn read_header(line: &[u8]) -> Result<Header, Refusal>
     ensures equation { result ≡ header_of line.now }
     ensures reading { HeaderReading line.now result }
 {
     if LONGEST_LINE < line.len() {
-        return HeaderLine::Refusal(1);
+        return Err(Refusal::LongLine);
     }
     header_for(line_contents::content(line))
 }

@@ -1,6 +1,6 @@
 -- The money part: signed amounts, their sizes, and the enclosures of a loan's two numbers over natural numbers.
 -- Assumes nothing.
-use mathlib.Core.Path.{◌≡◌, refl, ap}
+use mathlib.Core.Path.{◌≡◌, refl, ap, subst⁻¹}
 use Prim.Native.Nat.{ℕ, ◌+◌, ◌*◌, ◌-◌, ◌/◌, ◌%◌, ◌^◌, ◌≤◌, ◌<◌, min}
 use native.Mathlib.Decide.{dec_le}
 use native.Mathlib.Omega.{arith}
@@ -14,9 +14,6 @@ use Rattle.loan_charge.specs.Computation.{unit, limit, limited, total_pad, suppl
 use Rattle.loan_charge.specs.Computation.{curves_sum_lem, factor, rate, times, signed, rounded_up_lem, rounded_down_lem}
 use Rattle.loan_charge.proofs.Near.{Near, Floored, near_add, near_mul, near-equal, near-scale, near-widen, near-multiple, near-floor}
 use Rattle.loan_charge.proofs.ScaledValue.{Held}
-
-pub amounts : {a b c d : ℕ} → a ≡ c → b ≡ d → ◌≡◌ {A = Signed} (record { plus = a; minus = b }) (record { plus = c; minus = d })
-amounts p q = λ i. record { plus = p i; minus = q i }
 
 pub floored : (a b : ℕ) → Floored (2 ^ 40) a b (scaled_product_lem a b)
 floored a b = record { below = omega arith; above = omega arith }
@@ -208,6 +205,10 @@ pub record AtMostOne (h : Heights) : Type 0 where
 pub record SignedAtMost (P M : ℕ) (x : Signed) : Type 0 where
   pub plus : x.plus ≤ P
   pub minus : x.minus ≤ M
+
+-- what is equal to an amount is as small
+pub at-most : {p m : ℕ} {x y : Signed} → x ≡ y → SignedAtMost p m y → SignedAtMost p m x
+at-most {p} {m} e h = subst⁻¹ (λ (x : Signed). SignedAtMost p m x) e h
 
 pub weighted-most : {c : ScaledCurve} {h : Heights} (w₁ w₂ w₃ : ℕ) → Weights w₁ w₂ w₃ c → AtMostOne h →
     SignedAtMost (w₁ * 2 ^ 40 + w₂ * 2 ^ 40) (w₃ * 2 ^ 40) (weighted c h)

@@ -9,31 +9,16 @@ use Rattle.exponential.specs.Exponential.{exp_upper_lem}
 use Rattle.exponential.proofs.Laws as Exponential
 use Rattle.coefficients.specs.Coefficients.{Curve, first_set_lem, Months}
 use Rattle.coefficients.specs.Integers.{scaled_a, scaled_b, scaled_c, tenths_b}
-use Rattle.loan_charge.specs.Computation.{unit, exponents, heights_at_lem, heights, Usable, weighted, curve_units_lem, curves_sum_lem, factor, rate, times}
+use Rattle.loan_charge.specs.Computation.{exponents, heights_at_lem, heights, Usable, weighted, curve_units_lem, curves_sum_lem, factor, rate, times}
 use Rattle.loan_charge.specs.Computation.{ratio_units, a_units, b_units, base_units_lem, rate_units_lem}
 use Rattle.loan_charge.specs.Charge.{Chargeable}
 use Rattle.loan_charge.specs.declared.LoanInputs.{LoanInputs}
 use Rattle.coefficients.specs.declared.ScaledCurve.{ScaledCurve}
 use Rattle.loan_charge.specs.declared.charge.Exponents.{Exponents}
-use Rattle.loan_charge.specs.declared.charge.Heights.{Heights}
-use Rattle.loan_charge.specs.declared.charge.LoanCharge.{LoanCharge}
 use Rattle.fixed_point.specs.declared.Signed.{Signed}
 use Rattle.coefficients.specs.Promise.{ScaledCurveOf}
 use Rattle.coefficients.proofs.CoefficientLaws.{scaled-a, scaled-b, tenths-b}
-use Rattle.loan_charge.proofs.ScaledValue.{held}
 use Rattle.loan_charge.proofs.Money.{Weights, AtMostOne, SignedAtMost, weighted-most, curves-most, times-most}
-
--- Equal values have equal parts.
-
-pub two-heights : {a b c d : ℕ} → a ≡ c → b ≡ d → ◌≡◌ {A = Heights} (record { first = a; second = b }) (record { first = c; second = d })
-two-heights p q = λ i. record { first = p i; second = q i }
-
-pub two-exponents : {a b c d : ℕ} → a ≡ c → b ≡ d → ◌≡◌ {A = Exponents} (record { first = a; second = b }) (record { first = c; second = d })
-two-exponents p q = λ i. record { first = p i; second = q i }
-
-pub numbers : {a b c d : Signed} → a ≡ c → b ≡ d →
-    ◌≡◌ {A = LoanCharge} (record { total = a; supplement = b }) (record { total = c; supplement = d })
-numbers p q = λ i. record { total = p i; supplement = q i }
 
 -- The coefficients.
 
@@ -77,9 +62,6 @@ curve-most {w} {p} {m} {s = s} h z = weighted-most w p m (weights h) (heights-sm
 
 pub months-in : {l : LoanInputs} → Chargeable l → Months l.months
 months-in c = record { least = c.months_least; most = c.months_most }
-
-pub ratio-most : {l : LoanInputs} {w : ℕ} → Chargeable l → w ≡ ratio_units l → w ≤ 16 * unit
-ratio-most {l} c e = omega (arith, e, (held l.value l.over c.divisor_least).most)
 
 pub factor_most : (m : ℕ) → m ≤ 3 * 10 ^ 17 → factor m ≤ 3 * 2 ^ 40
 unfolding factor

@@ -18,29 +18,32 @@ fn reached(x: u64, low: u64, step: u64, most: u64) -> u64
     if x < low {
         return 0;
     }
-    let n = (x - low) / step + 1;
-    if most < n { most } else { n }
+    ((x - low) / step + 1).min(most)
 }
 
 // The band of a score, 0 to 10.
+#[tactic(auto, unfolding(crate::specs::CreditFactor::band, crate::specs::CreditFactor::count, crate::specs::Computation::reached_of, crate::specs::Computation::limits))]
 pub fn band(number: u64) -> usize
     ensures { (result ≡ band number) × (result ≤ 10) }
 {
     reached(number, 600, 20, 10) as usize
 }
 
+#[tactic(auto, unfolding(crate::specs::CreditFactor::column, crate::specs::CreditFactor::count, crate::specs::Computation::reached_of, crate::specs::Computation::limits))]
 fn column(age: u64) -> usize
     ensures { (result ≡ column age) × (result ≤ 5) }
 {
     reached(age, 13, 12, 5) as usize
 }
 
+#[tactic(auto, unfolding(crate::specs::CreditFactor::column_serving_lem))]
 fn column_serving(aged: bool, age: u64) -> usize
     ensures { (result ≡ column_serving_lem aged age) × (result ≤ 5) }
 {
     if aged { column(age) } else { 0 }
 }
 
+#[tactic(auto, unfolding(crate::specs::CreditFactor::scored_factor_lem))]
 fn scored_factor(rates: &Rates, aged: bool, number: u64, age: u64) -> u64
     ensures { result ≡ scored_factor_lem rates.now aged number age }
 {
@@ -60,6 +63,7 @@ fn unscored_factor(loans: u64, unscored: u64) -> u64
 }
 
 // The factor of a score, by the lent table of rates.
+#[tactic(auto, unfolding(crate::specs::CreditFactor::credit_factor_lem))]
 pub fn credit_factor(score: Score, aged: bool, loans: u64, unscored: u64, rates: &Rates) -> u64
     ensures { result ≡ credit_factor_lem rates.now aged loans unscored score }
 {

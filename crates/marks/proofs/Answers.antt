@@ -1,12 +1,12 @@
 -- What a mark or return answers, by the rows that were found. Assumes nothing.
 use mathlib.Core.Path.{◌≡◌, refl}
-use mathlib.Core.Bool.{Bool, true, false}
+use mathlib.Core.Bool.{true, false, true≢false, false≢true}
 use mathlib.Core.List.{List}
 use Prim.Native.Nat.{ℕ, ◌≤◌, ◌<◌}
 use native.Mathlib.Omega.{arith}
 use lib.ListN.{length}
 use borrow.Author.Tests.{lt-ltb, le-ltb, le-leb, lt-leb}
-use Rattle.exact.specs.Choice.{pick}
+use Rattle.std.specs.Prelude.{Option, Some, None, is_some, unwrap_or, IfSome}
 use Rattle.book_model.specs.Marks.{most_marks, place_among, is_among, mark_refusal, names_in, free_row, kept_in}
 use Rattle.book_model.proofs.MarkRows.{names-length}
 
@@ -32,7 +32,11 @@ module _ (marks : List (List ℕ)) (name : ℕ) {at : ℕ} (found : at ≡ place
   pub returned : at < 8 → 0 ≡ mark_refusal (kept_in marks) (record { back = true; name = name })
   returned h = rw (kept h) refl
 
--- what neither case changes
-pub same-either : {A : Type 0} (test : Bool) (x : A) → x ≡ pick test x x
-same-either true x = refl
-same-either false x = refl
+-- whether a row was found
+pub inside : (r : Option ℕ) → is_some r ≡ true → IfSome r (λ (at : ℕ). at < 8) → unwrap_or r 8 < 8
+inside (Some at) e h = h
+inside None e h = absurd (false≢true e)
+
+pub beyond : (r : Option ℕ) → is_some r ≡ false → unwrap_or r 8 ≡ 8
+beyond (Some at) e = absurd (true≢false e)
+beyond None e = refl

@@ -1,40 +1,36 @@
 -- What the loops over rows and numbers leave, over lists alone. Assumes nothing.
 use mathlib.Core.Path.{◌≡◌, refl, sym, ◌∙◌, ap}
-use mathlib.Core.List.{List, [], ◌∷◌, ◌++◌, append_assoc, append-nil}
-use Prim.Native.Nat.{ℕ, suc, ◌+◌, ◌≤◌, ◌<◌}
+use mathlib.Core.Bool.{Bool, true, false, cond}
+use mathlib.Core.List.{List, [], ◌++◌, append_assoc, append-nil}
+use Prim.Native.Nat.{ℕ, suc, ◌+◌, ◌≤◌}
 use native.Mathlib.Omega.{arith}
-use lib.ListN.{length, get_or, take, drop, set, replicate, length-drop, length-append, length-replicate, replicate-append-replicate, drop_of_length-le}
-use lib.Seq.{drop-cons, take-suc, take-suc-set, take_at, drop-append-add}
-use borrow.Author.Tests.{eq-eqb, ne_eqb}
+use lib.Dec.{ltb}
+use lib.ListN.{length, take, drop, length-drop, length-append, length-replicate, drop_of_length-le}
+use lib.Seq.{take_at, drop-append-add}
+use Rattle.std.specs.Prelude.{◌==◌, Some, None, unwrap_or, position, slice_index}
+use Rattle.std.specs.List.{position_or_len}
+use Rattle.std.proofs.lemmas.List.Recursion.{is_position_or_len}
+use Rattle.std.proofs.lemmas.List.Sums.{prefix_len-le-length}
+use Rattle.exact.specs.Choice.{pick}
 use Rattle.book_model.specs.Marks.{place_among, names_in, name_in, empty_row}
 
--- the place of a name, looked for from a row on
-pub found : (name : ℕ) (rows : List (List ℕ)) (i : ℕ) → i < length rows → get_or (get_or rows i []) 0 0 ≡ name →
-    place_among name (names_in (drop i rows)) ≡ 0
+-- the first row of a name, where there is one
+pub place-found : (name : ℕ) (rows : List (List ℕ)) →
+    unwrap_or (position (λ (row : List ℕ). slice_index row 0 == name) rows) (length rows) ≡ place_among name (names_in rows)
 unfolding place_among names_in name_in
-found name rows i h e = rw (drop-cons rows i [] h, eq-eqb (get_or (get_or rows i []) 0 0) name e) refl
+place-found name rows =
+    at-most (position_or_len named rows) (length rows) (prefix_len-le-length _ rows)
+    ∙ sym (is_position_or_len (λ (x : List (List ℕ)). place_among name (names_in x)) named refl (λ row x. step (named row) (place_among name (names_in x))) rows)
+  where
+    named : List ℕ → Bool
+    named row = slice_index row 0 == name
 
-pub passed : (name : ℕ) (rows : List (List ℕ)) (i : ℕ) → i < length rows → (get_or (get_or rows i []) 0 0 ≡ name → ⊥) →
-    place_among name (names_in (drop i rows)) ≡ suc (place_among name (names_in (drop (suc i) rows)))
-unfolding place_among names_in name_in
-passed name rows i h d = rw (drop-cons rows i [] h, ne_eqb (get_or (get_or rows i []) 0 0) name d) refl
+    at-most : (n m : ℕ) → n ≤ m → unwrap_or (cond (ltb n m) (Some n) None) m ≡ n
+    at-most n m h = grind arith
 
-pub ended : (name : ℕ) (rows : List (List ℕ)) (i : ℕ) → length rows ≤ i → place_among name (names_in (drop i rows)) ≡ 0
-unfolding place_among names_in
-ended name rows i h = rw (drop_of_length-le rows h) refl
-
--- one number more is copied
-pub copied : (to from : List ℕ) (i : ℕ) → i < length to → i < length from → take i to ≡ take i from →
-    take (suc i) (set to i (get_or from i 0)) ≡ take (suc i) from
-copied to from i h g e =
-    take-suc-set to i (get_or from i 0) h ∙ ap (λ (x : List ℕ). x ++ (get_or from i 0 ∷ [])) e ∙ sym (take-suc from i 0 g)
-
--- one row more is cleared
-pub cleared : (rows first : List (List ℕ)) (row : List ℕ) (i n : ℕ) → i < length rows → take i rows ≡ first ++ replicate n row →
-    take (suc i) (set rows i row) ≡ first ++ replicate (n + 1) row
-cleared rows first row i n h e =
-    take-suc-set rows i row h ∙ ap (λ (x : List (List ℕ)). x ++ (row ∷ [])) e ∙ append_assoc first (replicate n row) (row ∷ [])
-    ∙ ap (λ (x : List (List ℕ)). first ++ x) (replicate-append-replicate n 1 row)
+    step : (test : Bool) (n : ℕ) → pick test 0 (suc n) ≡ cond test 0 (1 + n)
+    step true n = refl
+    step false n = omega arith
 
 pub no-row-length : length empty_row ≡ 1844
 unfolding empty_row

@@ -1,20 +1,20 @@
-// Marks in a long book (02, L6): each keeps the book's numbers and tables under a name, in a row of a table lent with the book.
+// Marks in a long book (02, L6): each keeps the book's numbers and tables under a name, in a row of a table that goes with the book.
 #![tactic(auto)]
 
-ghost use Rattle.std.specs.Prelude.{◌≡◌, [], ◌++◌, suc, ◌+◌, ◌-◌, ◌<◌, ◌≤◌, length, get_or, take, drop, set, replicate, true, false, eqb};
+ghost use Rattle.std.specs.Prelude.{◌≡◌, [], ◌++◌, ◌+◌, ◌-◌, ◌<◌, ◌≤◌, ◌==◌, IfSome, unwrap_or, position, slice_index, length, get_or, take, drop, set, replicate, true, false, eqb};
 ghost use Rattle.exact.specs.Choice.{pick};
-ghost use Rattle.book_model.specs.Marks.{numbers_of, row_of, book_in_lem, cells_in, index_in, empty_row, no_marks, names_in, place_among, free_row, kept_in};
-ghost use Rattle.book_model.specs.Marks.{first_marks, mark_refusal};
-ghost use Rattle.book_model.specs.Steps.{part_marked};
+ghost use Rattle.book_model.specs.Calls.{told, marked, place_named, back_at, state_marked};
+ghost use Rattle.book_model.specs.Marks.{numbers_of, row_of, book_in_lem, cells_in, index_in, empty_row, no_marks, names_in, place_among, mark_refusal, kept_in};
 
-use book_model::{Book, Fed};
+use book_model::{Book, OpenBook};
 use cell_report::Cells;
 use figures::{Counts, Money, Sums};
 use fixed_point::Signed;
 use house_index::Index;
-use line_forms::{Header, MarkLine};
+use line_forms::{Header, MarkLine, Refusal};
 
 // A row: the name, the count of index lines and 18 sums; from CELLS on the 240 numbers of the cells; from INDEX on the 1,584 of the index.
+// Kept: the definitions numbers_of, book_in_lem, row_of, cells_in and index_in speak of the row's numbers by their places.
 const CELLS: usize = 20;
 
 const INDEX: usize = 260;
@@ -23,9 +23,9 @@ pub const ROW: usize = 1844;
 
 pub const MOST: usize = 8;
 
-pub type Row = [u64; ROW];
+pub type Row = book_model::Row;
 
-pub type Marks = [Row; MOST];
+pub type Marks = book_model::Marks;
 
 // No mark: a name of 0. A call keeps the zeros out of what is to be shown elsewhere.
 fn no_row() -> Row
@@ -34,7 +34,7 @@ fn no_row() -> Row
     [0; ROW]
 }
 
-// A table without a mark, for a caller to lend.
+// A table without a mark.
 pub fn none() -> Marks
     ensures { result ≡ no_marks }
 {
@@ -48,10 +48,9 @@ fn clear_from(rows: &mut [Row], from: usize)
     ensures { rows.new ≡ take from rows.old ++ replicate (length rows.old - from) empty_row }
 {
     let none = no_row();
-    let mut at = from;
-    while at < rows.len() {
-        rows[at] = none;
-        at += 1;
+    let rest = &mut rows[from..];
+    for row in rest.iter_mut() {
+        *row = none;
     }
 }
 
@@ -62,31 +61,20 @@ pub fn clear(marks: &mut Marks)
     clear_from(marks, 0);
 }
 
-// The first row of this name, MOST where there is none. The name 0 finds the first free row.
-pub fn find(marks: &Marks, name: u64) -> usize
-    ensures { (result ≡ place_among name (names_in marks.now)) × (result ≤ 8) × (length marks.now ≡ 8) }
+// The first of rows that is of a name.
+fn row_named(rows: &[Row], name: u64) -> Option<usize>
+    ensures { result ≡ position (λ row. slice_index row 0 == name) rows.now }
 {
-    let rows: &[Row] = marks;
-    let mut i = 0;
-    while i < rows.len() {
-        if rows[i][0] == name {
-            return i;
-        }
-        i += 1;
-    }
-    i
+    rows.iter().position(|row| row[0] == name)
 }
 
-// All numbers of a slice into another as long.
-fn copy(to: &mut [u64], from: &[u64])
-    requires { length to.old ≡ length from.now }
-    ensures { to.new ≡ from.now }
+// The first row of this name. The name 0 finds the first free row.
+pub fn find(marks: &Marks, name: u64) -> Option<usize>
+    ensures place { unwrap_or result 8 ≡ place_among name (names_in marks.now) }
+    ensures inside { IfSome result (λ at. at < 8) }
+    ensures size { length marks.now ≡ 8 }
 {
-    let mut i = 0;
-    while i < from.len() {
-        to[i] = from[i];
-        i += 1;
-    }
+    row_named(marks, name)
 }
 
 // A row with other numbers from a place on.
@@ -95,7 +83,7 @@ fn put(row: &mut [u64], at: usize, part: &[u64])
     ensures { row.new ≡ take at row.old ++ (part.now ++ drop (at + length part.now) row.old) }
 {
     let end = at + part.len();
-    copy(&mut row[at..end], part);
+    row[at..end].copy_from_slice(part);
 }
 
 // What a row starts with.
@@ -140,11 +128,11 @@ fn row_of(name: u64, b: Book, cells: &Cells, index: &Index) -> Row
 }
 
 // The book as it is, under a name, in a row.
-pub fn keep(marks: &mut Marks, at: usize, name: u64, b: Book, cells: &Cells, index: &Index)
+pub fn keep(open_book: &mut OpenBook, at: usize, name: u64)
     requires { at < 8 }
-    ensures { marks.new ≡ set marks.old at (row_of name b cells.now index.now) }
+    ensures { open_book.new ≡ record open_book.old { marks = set open_book.old.marks at (row_of name open_book.old.book open_book.old.cells open_book.old.index) } }
 {
-    marks[at] = row_of(name, b, cells, index);
+    open_book.marks[at] = row_of(name, open_book.book, &open_book.cells, &open_book.index);
 }
 
 // The book that a row keeps, with the header, which is the same at every mark.
@@ -199,91 +187,56 @@ fn copy_tables(row: &Row, cells: &mut Cells, index: &mut Index)
     ensures index { index.new ≡ index_in row.now }
 {
     let numbers: &[u64] = row;
-    copy(cells, &numbers[CELLS..INDEX]);
-    copy(index, &numbers[INDEX..ROW]);
+    cells.copy_from_slice(&numbers[CELLS..INDEX]);
+    index.copy_from_slice(&numbers[INDEX..ROW]);
 }
 
-// The book that a row keeps, with its tables; the rows after it are cleared.
-pub fn restore(
-    marks: &mut Marks,
-    at: usize,
-    header: Header,
-    cells: &mut Cells,
-    index: &mut Index,
-) -> Book
+// The book as it was when a row was kept; the rows after it are cleared.
+pub fn restore(open_book: &mut OpenBook, at: usize)
     requires { at < 8 }
-    ensures equation { result ≡ book_in_lem header (get_or marks.old at []) }
-    ensures cells { cells.new ≡ cells_in (get_or marks.old at []) }
-    ensures index { index.new ≡ index_in (get_or marks.old at []) }
-    ensures marks { marks.new ≡ first_marks (suc at) marks.old }
+    ensures { open_book.new ≡ back_at open_book.old at }
 {
-    let row = marks[at];
-    copy_tables(&row, cells, index);
-    clear_from(marks, at + 1);
-    book_in(header, &row)
+    let row = open_book.marks[at];
+    open_book.book = book_in(open_book.book.header, &row);
+    copy_tables(&row, &mut open_book.cells, &mut open_book.index);
+    clear_from(&mut open_book.marks, at + 1);
 }
 
 // A mark: 13 where its name is kept, then 14 where no row is free.
-fn set_mark(b: Book, cells: &Cells, index: &Index, marks: &mut Marks, name: u64) -> u64
-    ensures equation { result ≡ mark_refusal (kept_in marks.old) (record { back = false; name = name }) }
-    ensures marks { marks.new ≡
-        pick (eqb result 0) (set marks.old (free_row marks.old) (row_of name b cells.now index.now))
-        marks.old }
+fn set_mark(open_book: &mut OpenBook, name: u64) -> Result<(), Refusal>
+    ensures refusal { told result ≡ mark_refusal (kept_in open_book.old.marks) (record { back = false; name = name }) }
+    ensures state { open_book.new ≡ pick (eqb (told result) 0) (marked open_book.old name) open_book.old }
 {
-    let found = find(marks, name);
-    if found < MOST {
-        return 13;
+    if find(&open_book.marks, name).is_some() {
+        return Err(Refusal::MarkKept);
     }
-    let free = find(marks, 0);
-    if MOST <= free {
-        return 14;
-    }
-    keep(marks, free, name, b, cells, index);
-    0
+    let Some(free) = find(&open_book.marks, 0) else {
+        return Err(Refusal::MarksFull);
+    };
+    keep(open_book, free, name);
+    Ok(())
 }
 
 // A return: 15 where its name is not kept.
-fn back_to(b: Book, cells: &mut Cells, index: &mut Index, marks: &mut Marks, name: u64) -> Fed
-    ensures refusal { result.refusal ≡ mark_refusal (kept_in marks.old) (record { back = true; name = name }) }
-    ensures book { result.book ≡
-        pick (eqb result.refusal 0) (book_in_lem b.header (get_or marks.old (place_among name (names_in marks.old)) [])) b }
-    ensures cells { cells.new ≡
-        pick (eqb result.refusal 0) (cells_in (get_or marks.old (place_among name (names_in marks.old)) [])) cells.old }
-    ensures index { index.new ≡
-        pick (eqb result.refusal 0) (index_in (get_or marks.old (place_among name (names_in marks.old)) [])) index.old }
-    ensures marks { marks.new ≡
-        pick (eqb result.refusal 0) (first_marks (suc (place_among name (names_in marks.old))) marks.old) marks.old }
+fn back_to(open_book: &mut OpenBook, name: u64) -> Result<(), Refusal>
+    ensures refusal { told result ≡ mark_refusal (kept_in open_book.old.marks) (record { back = true; name = name }) }
+    ensures state { open_book.new ≡ pick (eqb (told result) 0) (back_at open_book.old (place_named open_book.old name)) open_book.old }
 {
-    let at = find(marks, name);
-    if MOST <= at {
-        return Fed {
-            refusal: 15,
-            book: b,
-        };
-    }
-    let header = b.header;
-    let book = restore(marks, at, header, cells, index);
-    Fed { refusal: 0, book }
+    let Some(at) = find(&open_book.marks, name) else {
+        return Err(Refusal::NoMark);
+    };
+    restore(open_book, at);
+    Ok(())
 }
 
-// A mark or return is fed to a book, with the tables that it keeps or restores.
-pub fn feed(b: Book, cells: &mut Cells, index: &mut Index, marks: &mut Marks, m: MarkLine) -> Fed
-    ensures refusal { result.refusal ≡ mark_refusal (kept_in marks.old) m }
-    ensures book { result.book ≡
-        part_marked result.refusal m (book_in_lem b.header (get_or marks.old (place_among m.name (names_in marks.old)) [])) b b }
-    ensures cells { cells.new ≡
-        part_marked result.refusal m (cells_in (get_or marks.old (place_among m.name (names_in marks.old)) [])) cells.old
-        cells.old }
-    ensures index { index.new ≡
-        part_marked result.refusal m (index_in (get_or marks.old (place_among m.name (names_in marks.old)) [])) index.old
-        index.old }
-    ensures marks { marks.new ≡
-        part_marked result.refusal m (first_marks (suc (place_among m.name (names_in marks.old))) marks.old)
-        (set marks.old (free_row marks.old) (row_of m.name b cells.old index.old)) marks.old }
+// A mark or return is fed to a book.
+pub fn feed(open_book: &mut OpenBook, m: MarkLine) -> Result<(), Refusal>
+    ensures refusal { told result ≡ mark_refusal (kept_in open_book.old.marks) m }
+    ensures state { open_book.new ≡ state_marked (told result) open_book.old m }
 {
     if m.back {
-        return back_to(b, cells, index, marks, m.name);
+        back_to(open_book, m.name)
+    } else {
+        set_mark(open_book, m.name)
     }
-    let refusal = set_mark(b, cells, index, marks, m.name);
-    Fed { refusal, book: b }
 }

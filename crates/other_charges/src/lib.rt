@@ -1,12 +1,12 @@
 // The charges of what is no home loan, in ten-millionths of a cent: fine enough for every one to be whole.
 #![tactic(auto)]
 
-ghost use Rattle.std.specs.Prelude.{◌≡◌, ◌≤◌, get_or};
+ghost use Rattle.std.specs.Prelude.{◌≡◌, ◌≤◌, ◌-◌, get_or};
 ghost use Rattle.other_charges.specs.Charges.{provision_tenths_lem, add_on_thousandths};
 ghost use Rattle.other_charges.specs.Parts.{asset_parts_lem, share_parts_lem, derivative_parts_lem, provision_parts_lem};
 ghost use Rattle.exact.specs.Choice.{up_to};
 
-use line_forms::Kind;
+use line_forms::{Derivative, Kind};
 
 pub fn asset_parts(amount: u64, factor: u64) -> u64
     requires { (amount ≤ 100000000000) × (factor ≤ 10000) }
@@ -16,6 +16,7 @@ pub fn asset_parts(amount: u64, factor: u64) -> u64
 }
 
 // A share of an amount in per cent.
+// Kept: one product each, here and in `asset_parts`; with the scale as a const parameter a caller would name 1000 or 100000 and no rule: no plainer.
 pub fn share_parts(amount: u64, percent: u64) -> u64
     requires { (amount ≤ 100000000000) × (percent ≤ 100) }
     ensures { result ≡ share_parts_lem amount percent }
@@ -34,6 +35,7 @@ fn by_months(months: u64, year: u64, five: u64, more: u64) -> u64
 }
 
 // The add-on factor of a derivative in thousandths.
+#[tactic(auto, unfolding(crate::specs::Charges::add_on_thousandths))]
 fn add_on(kind: Kind, months: u64) -> u64
     ensures { result ≡ add_on_thousandths kind months }
 {
@@ -47,48 +49,33 @@ fn add_on(kind: Kind, months: u64) -> u64
     }
 }
 
-// `cost` is the replacement cost where that is positive, else 0.
-pub fn derivative_parts(
-    kind: Kind,
-    cost: u64,
-    notional: u64,
-    months: u64,
-    pays: u64,
-    factor: u64,
-) -> u64
-    requires { (cost ≤ 100000000000) × (notional ≤ 100000000000) × (pays ≤ 100) × (factor ≤ 10000) }
-    ensures { result ≡ derivative_parts_lem kind cost notional months pays factor }
+// A derivative: its replacement cost counts where that is positive, else as 0.
+pub fn derivative_parts(d: Derivative) -> u64
+    requires { (d.cost.plus - d.cost.minus ≤ 100000000000) × (d.notional ≤ 100000000000) × (d.payments ≤ 100) × (d.factor ≤ 10000) }
+    ensures { result ≡ derivative_parts_lem d.kind (d.cost.plus - d.cost.minus) d.notional d.months d.payments d.factor }
 {
-    let addon = add_on(kind, months);
-    (cost * 1000 + notional * addon * pays) * factor
+    let cost = d.cost.plus.saturating_sub(d.cost.minus);
+    let addon = add_on(d.kind, d.months);
+    (cost * 1000 + d.notional * addon * d.payments) * d.factor
 }
 
-// What stands at a place of a column, or 0 past its end.
-fn cell(column: &[u64], at: usize) -> u64
-    ensures { result ≡ get_or column.now at 0 }
-{
-    if at < column.len() { column[at] } else { 0 }
-}
-
-// The per cent of a policy's provision, in tenths.
+// The per cent of a policy's provision, in tenths: what stands at a place of a column, or 0 past its end.
+#[tactic(auto, unfolding(crate::specs::Charges::provision_tenths_lem))]
 fn provision_tenths(term: u64, done: usize) -> u64
     ensures { result ≡ provision_tenths_lem term done }
 {
-    if term <= 60 {
-        return cell(&[0, 20, 10, 5], done);
-    }
-    if term <= 120 {
-        return cell(&[0, 30, 20, 10, 10, 5, 5, 0], done);
-    }
-    if term <= 180 {
-        return cell(&[0, 40, 40, 35, 30, 30, 20, 10, 10, 10, 10, 0], done);
-    }
-    cell(
+    let column: &[u64] = if term <= 60 {
+        &[0, 20, 10, 5]
+    } else if term <= 120 {
+        &[0, 30, 20, 10, 10, 5, 5, 0]
+    } else if term <= 180 {
+        &[0, 40, 40, 35, 30, 30, 20, 10, 10, 10, 10, 0]
+    } else {
         &[
             0, 40, 40, 40, 55, 60, 50, 35, 20, 15, 15, 10, 10, 5, 5, 5, 5, 5, 5, 5, 0,
-        ],
-        done,
-    )
+        ]
+    };
+    column.get(done).copied().unwrap_or(0)
 }
 
 // A policy's provision; `scale` is 10,000 as it stands and 12,500 for 1.25 times.

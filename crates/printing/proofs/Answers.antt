@@ -6,8 +6,11 @@ use Prim.Native.Nat.{ℕ, ◌+◌, ◌*◌, ◌-◌, ◌≤◌, ◌<◌}
 use native.Mathlib.Omega.{arith}
 use lib.ListN.{length, take, drop}
 use borrow.Author.Tests.{eq-eqb, ne_eqb, le-ltb}
+use Rattle.std.specs.Prelude.{Result, Ok, Err}
+use Rattle.std.specs.Result.{result_unwrap_or}
 use Rattle.exact.specs.Choice.{pick}
 use Rattle.exact.specs.Text.{text}
+use Rattle.line_forms.specs.declared.refusal.Refusal.{Refusal}
 use Rattle.report.specs.Decimal.{digits}
 use Rattle.report.specs.Line.{refusal_line, Written}
 use Rattle.report.proofs.Decimal.{digits-length}
@@ -15,8 +18,7 @@ use Rattle.report.proofs.Lines.{two-length}
 use Rattle.report.proofs.Onto.{written-more}
 use Rattle.cell_report.proofs.Laws.{cells_fit}
 use Rattle.book_model.specs.declared.Book.{Book}
-use Rattle.book_model.specs.declared.Closed.{Closed}
-use Rattle.book_model.specs.Calls.{lacks_lines, closing_with, closing, closed, report_size, report_of, cells_size, cells_text_of, closing_cells, closed_cells}
+use Rattle.book_model.specs.Calls.{Closed, closed_by, lacks_lines, closing_with, closing, closed, report_size, report_of, cells_size, cells_text_of, closing_cells, closed_cells}
 use Rattle.book_model.specs.Calls.{SoundBook}
 use Rattle.book_model.specs.Cells.{CellsBounded}
 use Rattle.book_model.proofs.Closings.{not-refused, untouched, writes, tells}
@@ -59,7 +61,7 @@ module _ (asked : Bool) (b : Book) (cells out : List ℕ) (room : report_size + 
   by-six t e = rw (e, le-ltb (length out) report_size (omega arith)) refl
 
   pub closing-refused : {c : Closed} {after : List ℕ} → c ≡ closing b (length out) → after ≡ closed b out → (c.refusal ≡ 0 → ⊥) → (after ≡ out)
-      × ((n : ℕ) → printed_at_end asked b cells n ≡ refusal_line 6 n)
+      × ((n : ℕ) → printed_at_end asked b cells n ≡ refusal_line c.refusal n)
   unfolding printed_at_end
   closing-refused {c} {after} e f h = (
     f ∙ untouched report_size b (report_of b) out (λ z. h (ap (λ (x : Closed). x.refusal) e ∙ z)),
@@ -67,8 +69,8 @@ module _ (asked : Bool) (b : Book) (cells out : List ℕ) (room : report_size + 
   )
     where
       go : (n : ℕ) (t : Bool) → lacks_lines b.header b.sums.counts ≡ t →
-          pick t (refusal_line 6 n) (with_table asked (report_of b) (cells_text_of cells)) ≡ refusal_line 6 n
-      go n true k = refl
+          pick t (refusal_line 6 n) (with_table asked (report_of b) (cells_text_of cells)) ≡ refusal_line c.refusal n
+      go n true k = ap (λ (m : ℕ). refusal_line m n) (sym (ap (λ (x : Closed). x.refusal) e ∙ by-six true k))
       go n false k = absurd (h (ap (λ (x : Closed). x.refusal) e ∙ by-six false k))
 
   -- not refused: there are enough loans, and the report is written, with room for the table after it
@@ -111,3 +113,8 @@ table-written b cells out few room e f =
       count = ap (λ (x : Closed). x.length) e ∙ tells cells_size b (cells_text_of cells) (length out) z;
       bytes = f ∙ writes cells_size b (cells_text_of cells) out z;
     }
+
+-- a closing's length, where none is told 0
+pub length-told : (r : Result ℕ Refusal) → result_unwrap_or r 0 ≡ (closed_by r).length
+length-told (Ok n) = refl
+length-told (Err q) = refl

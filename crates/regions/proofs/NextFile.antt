@@ -1,18 +1,20 @@
 -- What one more file makes of a book. Assumes nothing.
 use mathlib.Core.Path.{◌≡◌, refl, sym, ◌∙◌, ap, subst}
-use mathlib.Core.Bool.{Bool, true, false, true≢false, false≢true}
+use mathlib.Core.Bool.{Bool, true, false, not, ◌&&◌, true≢false, false≢true}
 use mathlib.Core.List.{List, [], ◌∷◌}
 use Prim.Native.Nat.{ℕ, ◌+◌}
 use lib.Dec.{eqb}
 use borrow.Author.Tests.{eq-eqb, ne_eqb, eqb-true, eqb-false}
+use Rattle.std.specs.Prelude.{Result, Ok, Err, is_ok}
 use Rattle.exact.specs.Choice.{pick}
+use Rattle.line_forms.specs.declared.refusal.Refusal.{Refusal}
+use Rattle.line_forms.specs.Refusals.{number_of}
+use Rattle.line_forms.proofs.Refusals.{number-some}
 use Rattle.line_forms.proofs.Bytes.{and_both}
 use Rattle.report.specs.Line.{refusal_line, Written}
-use Rattle.book_model.specs.declared.Joined.{Joined}
-use Rattle.book_model.specs.Calls.{State, Answer, state_at, empty_state, lacks_lines, Sound}
-use Rattle.book_model.specs.Joining.{joined_header, may_join_lem, joined_state, joining, joined_of}
+use Rattle.book_model.specs.Calls.{State, Answer, told, empty_state, lacks_lines, Sound}
+use Rattle.book_model.specs.Joining.{joined_header, may_join_lem, joined_state, joining}
 use Rattle.book_model.specs.JoiningLaws.{without_marks}
-use Rattle.book_model.specs.Marks.{no_marks}
 use Rattle.book_model.specs.Terms.{refused_terms}
 use Rattle.book_model.proofs.Joining.{joining-holds}
 use Rattle.book_model.proofs.Tests.{closing-test}
@@ -67,6 +69,23 @@ refused-alone asked p e = go (eqb p.refusal 0) (eqb p.number 1) (lacks_lines p.s
     go true false true e = (6, p.number, refl)
     go true false false e = absurd (true≢false e)
 
+-- the test of it
+pub reports-tested : (p : Stage) {ok short : Bool} → ok ≡ eqb p.refusal 0 → short ≡ lacks_lines p.state.book.header p.state.book.sums.counts →
+    (ok && not (eqb p.number 1) && not short) ≡ reports p
+unfolding reports
+reports-tested p {ok} {short} e f = rw (← e, ← f) (go ok (eqb p.number 1) short)
+  where
+    go : (a b c : Bool) → (a && not b && not c) ≡ pick a (pick b false (pick c false true)) false
+    go true true c = refl
+    go true false true = refl
+    go true false false = refl
+    go false b c = refl
+
+-- what an answer's number tells
+pub is_ok-told : {A : Type 0} (r : Result A Refusal) → is_ok r ≡ eqb (told r) 0
+is_ok-told (Ok x) = refl
+is_ok-told (Err q) = sym (ne_eqb (number_of q) 0 (number-some q))
+
 -- the first file
 module _ (asked : Bool) (sheet input : List ℕ) (inputs : List (List ℕ)) where
   pub first-joined : reports (region_of sheet input) ≡ true → printed_regions asked sheet input inputs ≡ joined_from asked sheet (region_of sheet input).state 2 inputs
@@ -105,34 +124,25 @@ module _ (asked : Bool) (sheet : List ℕ) (s : State) (k : ℕ) (input : List �
   unfolding joins_on stops_with
   stops-16 e n = one-stops (rw (e, ne_eqb (joining s (region_of sheet input).state).refusal 0 n) refl) ∙ rw e refl
 
--- tables do not matter to it
-pub by-book : (p : Progress) (sheet rates cells index : List ℕ) (marks : List (List ℕ)) →
-    reports (stage_at p [] [] [] [] []) ≡ reports (stage_at p sheet rates cells index marks)
-unfolding reports
-by-book p sheet rates cells index marks = refl
-
 module _ (asked : Bool) (s : State) (k : ℕ) (p : Stage) {after : State} {old new : List ℕ} {told : ℕ} where
   pub file-alone : reports p ≡ false → Written old (printed_for asked p) told new → NextFile asked s k p true told after old new
   unfolding joins_on stops_with
   file-alone e w = record { goes_on = λ z. absurd (true≢false z); stops = λ z. (rw e refl, rw e w) }
 
-  pub file-16 : reports p ≡ true → ((joining s p.state).refusal ≡ 0 → ⊥) → Written old (refusal_line 16 k) told new →
+  pub file-16 : reports p ≡ true → {n : ℕ} → n ≡ (joining s p.state).refusal → (n ≡ 0 → ⊥) → Written old (refusal_line n k) told new →
       NextFile asked s k p true told after old new
   unfolding joins_on stops_with
-  file-16 e n w = record {
-    goes_on = λ z. absurd (true≢false z);
-    stops = λ z. (rw (e, ne_eqb (joining s p.state).refusal 0 n) refl, rw e w);
-  }
+  file-16 e {n} f z w =
+      let x : (joining s p.state).refusal ≡ 0 → ⊥ = λ y. z (f ∙ y) in
+      let sixteen : n ≡ 16 = f ∙ ap (λ (a : Answer). a.refusal) (joining-holds.refused s p.state x) in
+      record {
+        goes_on = λ y. absurd (true≢false y);
+        stops = λ y. (rw (e, ne_eqb (joining s p.state).refusal 0 x) refl, rw e (subst (λ (m : ℕ). Written old (refusal_line m k) told new) sixteen w));
+      }
 
   pub file-on : reports p ≡ true → (joining s p.state).refusal ≡ 0 → after ≡ (joining s p.state).state → new ≡ old →
       NextFile asked s k p false told after old new
   file-on e z j l = record { goes_on = λ x. (both_go s p e z, j, l); stops = λ x. absurd (false≢true x) }
-
--- the state that `join` left
-pub left_by : (a b : State) {r : Joined} {rates cells index : List ℕ} {marks : List (List ℕ)} → r ≡ joined_of (joining a b) → rates ≡ (joining a b).state.rates →
-    cells ≡ (joining a b).state.cells → index ≡ (joining a b).state.index → marks ≡ (joining a b).state.marks →
-    state_at r.book rates cells index marks ≡ (joining a b).state
-left_by a b e f g h m = λ i. state_at (e i).book (f i) (g i) (h i) (m i)
 
 -- Marks are looked at by no joining, and none gives any.
 
@@ -152,11 +162,11 @@ first-dropped asked sheet s k [] = refl
 first-dropped asked sheet s k (input ∷ inputs) = refl
 
 -- nor the sheet, once its book is opened
-pub file-dropped : (asked : Bool) (s : State) (k : ℕ) (p : Progress) (sheet : List ℕ) {rates cells index : List ℕ} {marks : List (List ℕ)} {done : Bool}
-    {told : ℕ} {after : State} {old new : List ℕ} → NextFile asked s k (stage_at p [] rates cells index no_marks) done told after old new →
-    NextFile asked s k (stage_at p sheet rates cells index marks) done told (without_marks after) old new
+pub file-dropped : (asked : Bool) (s : State) (k : ℕ) (p : Progress) (sheet : List ℕ) (own : State) {done : Bool} {told : ℕ} {after : State}
+    {old new : List ℕ} → NextFile asked s k (stage_at p [] (without_marks own)) done told after old new →
+    NextFile asked s k (stage_at p sheet own) done told (without_marks after) old new
 unfolding joins_on stops_with reports joining may_join_lem
-file-dropped asked s k p sheet {rates} {cells} {index} n = record {
-  goes_on = λ e. let (g, a, l) = n.goes_on e in (g, ap without_marks a ∙ joined-dropped s (state_at p.book rates cells index no_marks), l);
+file-dropped asked s k p sheet own n = record {
+  goes_on = λ e. let (g, a, l) = n.goes_on e in (g, ap without_marks a ∙ joined-dropped s (without_marks own), l);
   stops = λ e. n.stops e;
 }

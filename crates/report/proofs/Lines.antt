@@ -8,9 +8,9 @@ use lib.ListN.{length, take, drop, length-append}
 use Rattle.fixed_point.specs.declared.Signed.{Signed}
 use Rattle.exact.specs.Text.{text}
 use Rattle.report.specs.Decimal.{signed}
-use Rattle.report.specs.Line.{spaced, line, Written, Added}
+use Rattle.report.specs.Line.{spaced, line, Written}
 use Rattle.report.proofs.Decimal.{signed-length}
-use Rattle.report.proofs.Onto.{written-more, added, written_then}
+use Rattle.report.proofs.Onto.{written-more}
 
 -- a line's text before its end
 abbrev begun : List ℕ → List (List ℕ) → List ℕ
@@ -29,42 +29,24 @@ module _ {old name xs : List ℕ} {a : ℕ} where
   pub begin : Written old (text "(" ++ name) a xs → Begun old name [] a xs
   begin w = record { so_far = subst (λ (t : List ℕ). Written old (text "(" ++ t) a xs) (sym (append-nil name)) w }
 
-  -- a field more, added after the a bytes
-  pub add-field :
-      {fields : List (List ℕ)} {w ys : List ℕ} {r : ℕ} →
-      Begun old name fields a xs →
-      Added xs a (text " " ++ w) r ys →
-      Begun old name (fields ++ (w ∷ [])) r ys
-  add-field {fields} {w} {ys} {r} b p = record {
-    so_far = subst (λ (t : List ℕ). Written old t r ys)
-        (ap (λ (t : List ℕ). text "(" ++ t) (append_assoc name (spaced fields) (text " " ++ w) ∙ ap (λ (t : List ℕ). name ++ t) (sym (spaced-more fields w))))
-        (written_then b.so_far p);
-  }
-
   module _ {ys : List ℕ} {r : ℕ} {fields : List (List ℕ)} where
-    -- the same of a writer that is lent what remains
+    -- a field more, written to what remains
     pub field :
         {w : List ℕ} →
         Begun old name fields a xs →
         Written (take (length xs - a) (drop a xs)) (text " " ++ w) r ys →
         Begun old name (fields ++ (w ∷ [])) (a + r) (take a xs ++ (ys ++ drop (length xs - a) (drop a xs)))
-    field b p = add-field b (added p)
+    field {w} b p = record {
+      so_far = subst (λ (t : List ℕ). Written old t (a + r) (take a xs ++ (ys ++ drop (length xs - a) (drop a xs))))
+          (ap (λ (t : List ℕ). text "(" ++ t) (append_assoc name (spaced fields) (text " " ++ w) ∙ ap (λ (t : List ℕ). name ++ t) (sym (spaced-more fields w))))
+          (written-more b.so_far p);
+    }
 
     pub end :
         Begun old name fields a xs →
         Written (take (length xs - a) (drop a xs)) (text ")\n") r ys →
         Written old (line name fields) (a + r) (take a xs ++ (ys ++ drop (length xs - a) (drop a xs)))
     end b p = written-more b.so_far p
-
--- a line with one field, from its three pieces
-pub one_field :
-    {old name w xs ys zs : List ℕ} {a r q : ℕ} →
-    let all = take a xs ++ (ys ++ drop (length xs - a) (drop a xs)) in
-    Written old (text "(" ++ name) a xs →
-    Written (take (length xs - a) (drop a xs)) (text " " ++ w) r ys →
-    Written (take (length all - (a + r)) (drop (a + r) all)) (text ")\n") q zs →
-    Written old (line name (w ∷ [])) (a + r + q) (take (a + r) all ++ (zs ++ drop (length all - (a + r)) (drop (a + r) all)))
-one_field n v e = end (field (begin n) v) e
 
 pub line-length : (name : List ℕ) (ws : List (List ℕ)) → length (line name ws) ≡ length name + length (spaced ws) + 3
 line-length name ws =

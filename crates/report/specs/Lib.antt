@@ -1,3 +1,4 @@
 pub mod Decimal
 pub mod Examples
+pub mod Fields
 pub mod Line

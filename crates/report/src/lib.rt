@@ -1,56 +1,38 @@
 // Lines of decimal numbers, written into a buffer that the caller lends. A function `put_..` writes from the buffer's start, tells how many bytes it
-// wrote, and leaves the bytes after them; an `add_..` goes on after the first `at` bytes, and lends what remains of the buffer to the other.
+// wrote, and leaves the bytes after them; what comes next is written to what remains of the buffer.
 #![tactic(auto)]
 
-ghost use Rattle.std.specs.Prelude.{[], ◌∷◌, ◌++◌, ◌+◌, ◌≤◌, length};
+ghost use Rattle.std.specs.Prelude.{[], ◌∷◌, ◌++◌, ◌+◌, ◌≤◌, length, map, sum_by};
+ghost use Rattle.std.specs.List.{flat_map};
 ghost use Rattle.exact.specs.Text.{text};
 ghost use Rattle.report.specs.Decimal.{digits, signed};
-ghost use Rattle.report.specs.Line.{line, refusal_line, Written, Added};
+ghost use Rattle.report.specs.Fields.{field_text};
+ghost use Rattle.report.specs.Line.{line, refusal_line, Written};
 
 use fixed_point::Signed;
+use itoa::Buffer;
+
+// A field of a line: a number without a sign, a number with one, or a word.
+#[derive(Clone, Copy)]
+pub enum Field<'a> {
+    Count(u64),
+    Number(Signed),
+    Word(&'a [u8]),
+}
 
 pub fn put_bytes(out: &mut [u8], s: &[u8]) -> usize
     requires { length s.now ≤ length out.old }
     ensures { Written out.old s.now result out.new }
 {
-    let mut i = 0;
-    while i < s.len() {
-        out[i] = s[i];
-        i += 1;
-    }
-    i
+    out[..s.len()].copy_from_slice(s);
+    s.len()
 }
 
 fn put_number(out: &mut [u8], n: u64) -> usize
     requires { length (digits n) ≤ length out.old }
     ensures { Written out.old (digits n) result out.new }
 {
-    let last = 48 + (n % 10) as u8;
-    if n < 10 {
-        out[0] = last;
-        return 1;
-    }
-    let at = put_number(out, n / 10);
-    out[at] = last;
-    at + 1
-}
-
-// A byte, and a text after it.
-fn put_marked(out: &mut [u8], mark: u8, word: &[u8]) -> usize
-    requires { length (mark ∷ word.now) ≤ length out.old }
-    ensures { Written out.old (mark ∷ word.now) result out.new }
-{
-    out[0] = mark;
-    1 + put_bytes(&mut out[1..], word)
-}
-
-// A byte, and a number after it.
-fn put_marked_number(out: &mut [u8], mark: u8, n: u64) -> usize
-    requires { length (mark ∷ digits n) ≤ length out.old }
-    ensures { Written out.old (mark ∷ digits n) result out.new }
-{
-    out[0] = mark;
-    1 + put_number(&mut out[1..], n)
+    put_bytes(out, Buffer::new().format(n).as_bytes())
 }
 
 fn put_signed(out: &mut [u8], value: Signed) -> usize
@@ -58,67 +40,66 @@ fn put_signed(out: &mut [u8], value: Signed) -> usize
     ensures { Written out.old (signed value) result out.new }
 {
     if value.plus < value.minus {
-        put_marked_number(out, b'-', value.minus - value.plus)
+        let at = put_bytes(out, b"-");
+        at + put_number(&mut out[at..], value.minus - value.plus)
     } else {
         put_number(out, value.plus - value.minus)
     }
 }
 
-// A space, and a number with its sign after it.
-fn put_value(out: &mut [u8], value: Signed) -> usize
-    requires { length (text " " ++ signed value) ≤ length out.old }
-    ensures { Written out.old (text " " ++ signed value) result out.new }
+fn put_text(out: &mut [u8], field: Field) -> usize
+    requires { length (field_text field) ≤ length out.old }
+    ensures { Written out.old (field_text field.entry) result out.new }
 {
-    out[0] = b' ';
-    1 + put_signed(&mut out[1..], value)
+    match field {
+        Field::Count(n) => put_number(out, n),
+        Field::Number(value) => put_signed(out, value),
+        Field::Word(word) => put_bytes(out, word),
+    }
 }
 
-// A space and a number with its sign after the first `at` bytes.
-pub fn add_value(out: &mut [u8], at: usize, value: Signed) -> usize
-    requires { at + 22 ≤ length out.old }
-    ensures value { Added out.old at (text " " ++ signed value) result out.new }
-    ensures short { result ≤ at + 22 }
+// A space, and a field after it.
+fn put_field(out: &mut [u8], field: Field) -> usize
+    requires { length (text " " ++ field_text field) ≤ length out.old }
+    ensures { Written out.old (text " " ++ field_text field.entry) result out.new }
 {
-    at + put_value(&mut out[at..], value)
+    let at = put_bytes(out, b" ");
+    at + put_text(&mut out[at..], field)
 }
 
-// The same for a number that has no sign.
-pub fn add_number(out: &mut [u8], at: usize, n: u64) -> usize
-    requires { at + 22 ≤ length out.old }
-    ensures number { Added out.old at (text " " ++ digits n) result out.new }
-    ensures short { result ≤ at + 22 }
+// A line with a name and fields, as `(rest 451)` or `(ratio none)`.
+pub fn put_line(out: &mut [u8], name: &[u8], fields: &[Field]) -> usize
+    requires { length (line name.now (map field_text fields.now)) ≤ length out.old }
+    ensures { Written out.old (line name.now (map field_text fields.now)) result out.new }
 {
-    let value = Signed { plus: n, minus: 0 };
-    add_value(out, at, value)
-}
-
-// A line with a name and a number, as `(rest 451)`.
-pub fn put_line(out: &mut [u8], name: &[u8], value: Signed) -> usize
-    requires { length (line name.now (signed value ∷ [])) ≤ length out.old }
-    ensures { Written out.old (line name.now (signed value ∷ [])) result out.new }
-{
-    let named = put_marked(out, b'(', name);
-    let at = named + put_value(&mut out[named..], value);
+    let mut at = put_bytes(out, b"(");
+    at += put_bytes(&mut out[at..], name);
+    for field in fields {
+        at += put_field(&mut out[at..], *field);
+    }
     at + put_bytes(&mut out[at..], b")\n")
 }
 
-// The same line after the first `at` bytes.
-pub fn add_line(out: &mut [u8], at: usize, name: &[u8], value: Signed) -> usize
-    requires { at + length name.now + 25 ≤ length out.old }
-    ensures line { Added out.old at (line name.now (signed value ∷ [])) result out.new }
-    ensures short { result ≤ at + length name.now + 25 }
+// The line of a number, which has at most 21 bytes.
+fn put_value(out: &mut [u8], name: &[u8], value: Signed) -> usize
+    requires { length name.now + 25 ≤ length out.old }
+    ensures line { Written out.old (line name.now (signed value ∷ [])) result out.new }
+    ensures short { result ≤ length name.now + 25 }
 {
-    at + put_line(&mut out[at..], name, value)
+    put_line(out, name, &[Field::Number(value)])
 }
 
-// A line with a name and a word, as `(ratio none)`.
-pub fn put_word_line(out: &mut [u8], name: &[u8], word: &[u8]) -> usize
-    requires { length (line name.now (word.now ∷ [])) ≤ length out.old }
-    ensures { Written out.old (line name.now (word.now ∷ [])) result out.new }
+// A line for each name and number.
+pub fn put_lines(out: &mut [u8], lines: &[(&[u8], Signed)]) -> usize
+    requires { sum_by (λ l. length l.0.now + 25) lines.now ≤ length out.old }
+    ensures lines { Written out.old (flat_map (λ l. line l.0.now (signed l.1 ∷ [])) lines.now) result out.new }
+    ensures short { result ≤ sum_by (λ l. length l.0.now + 25) lines.now }
 {
-    let named = put_marked(out, b'(', name);
-    let at = named + put_marked(&mut out[named..], b' ', word);
-    at + put_bytes(&mut out[at..], b")\n")
+    let mut at = 0;
+    for (name, value) in lines {
+        at += put_value(&mut out[at..], name, *value);
+    }
+    at
 }
 
 // The line `(refused N L)`.
@@ -126,8 +107,6 @@ pub fn put_refusal(out: &mut [u8], refusal: u64, number: u64) -> usize
     requires { length (refusal_line refusal number) ≤ length out.old }
     ensures { Written out.old (refusal_line refusal number) result out.new }
 {
-    let named = put_marked(out, b'(', b"refused");
-    let at = named + put_marked_number(&mut out[named..], b' ', refusal);
-    let end = at + put_marked_number(&mut out[at..], b' ', number);
-    end + put_bytes(&mut out[end..], b")\n")
+    let fields = [Field::Count(refusal), Field::Count(number)];
+    put_line(out, b"refused", &fields)
 }

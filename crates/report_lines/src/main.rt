@@ -6,6 +6,7 @@ ghost use Rattle.report.specs.Line.{Written};
 ghost use Rattle.report_lines.specs.Sample.{sample};
 
 use fixed_point::Signed;
+use report::Field;
 use std::io;
 use std::io::Print;
 
@@ -18,11 +19,14 @@ fn put_sample(out: &mut [u8], a: Signed, b: Signed) -> usize
         plus: a.minus,
         minus: a.plus,
     };
-    let one = report::add_line(out, 0, b"total", a);
-    let two = report::add_line(out, one, b"supplement", back);
-    let three = report::add_line(out, two, b"capital", b);
-    let four = report::add_line(out, three, b"required", a);
-    four + report::put_word_line(&mut out[four..], b"ratio", b"none")
+    let lines: [(&[u8], Signed); 4] = [
+        (b"total", a),
+        (b"supplement", back),
+        (b"capital", b),
+        (b"required", a),
+    ];
+    let at = report::put_lines(out, &lines);
+    at + report::put_line(&mut out[at..], b"ratio", &[Field::Word(b"none")])
 }
 
 fn main(rt: HostRuntime) -> io::Result<()> {

@@ -1,53 +1,32 @@
 // What a line adds to the sums of its book, one function for each kind.
 #![tactic(auto)]
 
-ghost use Rattle.std.specs.Prelude.{◌≡◌, ◌≤◌, ◌-◌};
-ghost use Rattle.loan_charge.specs.Tables.{exponentials};
+ghost use Rattle.std.specs.Prelude.{◌≡◌, ◌≤◌};
 ghost use Rattle.loan_charge.specs.CreditFactor.{RatesInRange};
 ghost use Rattle.figures.specs.Sums.{zero_money, zero_signed, money_of};
 ghost use Rattle.book_model.specs.Ranges.{LoanRanges, AdjustmentRanges, DerivativeRanges, AssetRanges};
 ghost use Rattle.book_model.specs.LineKinds.{unscored_count, fresh_count};
-ghost use Rattle.book_model.specs.Share.{other_share, capital_share, policy_share, derivative_share, asset_share, amount_share, share_with};
+ghost use Rattle.book_model.specs.Share.{other_share, policy_share, derivative_share, asset_share, amount_share, share_with};
 ghost use Rattle.book_model.specs.Terms.{under, factor_for};
 
 use book_model::Adjustment;
-use figures::{Counts, Money, Sums};
-use fixed_point::Signed;
-use line_forms::{Asset, Class, Derivative, Header, Item, Loan};
+use figures::{Counts, Sums};
+use line_forms::{Amount, Asset, Class, Derivative, Header, Item, Loan, Policy};
 use loan_charge::charge::Exponentials;
 use loan_charge::credit::Rates;
 use loan_charge::{LoanInputs, Score};
 
-fn no_money() -> Money
-    ensures { result ≡ zero_money }
+// The share of a line that is no loan, but for its charge or its capital: such a line is counted.
+fn other() -> Sums
+    ensures { result ≡ other_share zero_money zero_money zero_signed zero_signed 0 0 }
 {
-    Money { cents: 0, parts: 0 }
-}
-
-fn no_amount() -> Signed
-    ensures { result ≡ zero_signed }
-{
-    Signed { plus: 0, minus: 0 }
-}
-
-fn other(rest: Money, moved: Money, equity: Signed, aoci: Signed, b: u64, c: u64) -> Sums
-    ensures { result ≡ other_share rest moved equity aoci b c }
-{
+    let none = figures::none();
     Sums {
         counts: Counts {
-            loans: 0,
-            unscored: 0,
-            fresh: 0,
             other: 1,
+            ..none.counts
         },
-        total: no_amount(),
-        supplement: no_amount(),
-        rest,
-        moved,
-        equity,
-        aoci,
-        b,
-        c,
+        ..none
     }
 }
 
@@ -55,47 +34,26 @@ fn other(rest: Money, moved: Money, equity: Signed, aoci: Signed, b: u64, c: u64
 fn charged(rest: u64, moved: u64) -> Sums
     ensures { result ≡ other_share (money_of rest) (money_of moved) zero_signed zero_signed 0 0 }
 {
-    other(
-        figures::in_cents(rest),
-        figures::in_cents(moved),
-        no_amount(),
-        no_amount(),
-        0,
-        0,
-    )
-}
-
-// A line that adds to capital.
-fn capital(equity: Signed, aoci: Signed, b: u64, c: u64) -> Sums
-    ensures { result ≡ capital_share equity aoci b c }
-{
-    other(no_money(), no_money(), equity, aoci, b, c)
-}
-
-pub fn policy(class: Class, premium: u64, term: u64, completed: u64) -> Sums
-    requires { premium ≤ 100000000 }
-    ensures { result ≡ policy_share class premium term completed }
-{
-    match class {
-        Class::Home => charged(
-            0,
-            other_charges::provision_parts(premium, term, completed, 10000),
-        ),
-        Class::Multi => charged(
-            other_charges::provision_parts(premium, term, completed, 12500),
-            0,
-        ),
+    Sums {
+        rest: figures::in_cents(rest),
+        moved: figures::in_cents(moved),
+        ..other()
     }
 }
 
-// The larger of the replacement cost and 0.
-fn positive(x: Signed) -> u64
-    ensures { result ≡ x.plus - x.minus }
+pub fn policy(p: Policy) -> Sums
+    requires { p.premium ≤ 100000000 }
+    ensures { result ≡ policy_share p.class p.premium p.term p.completed }
 {
-    if x.minus < x.plus {
-        x.plus - x.minus
-    } else {
-        0
+    match p.class {
+        Class::Home => charged(
+            0,
+            other_charges::provision_parts(p.premium, p.term, p.completed, 10000),
+        ),
+        Class::Multi => charged(
+            other_charges::provision_parts(p.premium, p.term, p.completed, 12500),
+            0,
+        ),
     }
 }
 
@@ -103,17 +61,7 @@ pub fn derivative(d: Derivative) -> Sums
     requires { DerivativeRanges d }
     ensures { result ≡ derivative_share d }
 {
-    let kind = d.kind;
-    let cost = d.cost;
-    let parts = other_charges::derivative_parts(
-        kind,
-        positive(cost),
-        d.notional,
-        d.months,
-        d.payments,
-        d.factor,
-    );
-    charged(parts, 0)
+    charged(other_charges::derivative_parts(d), 0)
 }
 
 pub fn asset(a: Asset) -> Sums
@@ -123,22 +71,33 @@ pub fn asset(a: Asset) -> Sums
     charged(other_charges::asset_parts(a.amount, a.factor), 0)
 }
 
-pub fn amount(item: Item, x: Signed) -> Sums
-    requires { x.plus ≤ 100000000000 }
-    ensures { result ≡ amount_share item x }
+pub fn amount(a: Amount) -> Sums
+    requires { a.amount.plus ≤ 100000000000 }
+    ensures { result ≡ amount_share a.item a.amount }
 {
-    match item {
+    let x = a.amount;
+    match a.item {
         Item::Claims => charged(other_charges::share_parts(x.plus, 20), 0),
         Item::Lossc => charged(other_charges::share_parts(x.plus, 40), 0),
         Item::Stated => charged(other_charges::share_parts(x.plus, 100), 0),
-        Item::Equity => capital(x, no_amount(), 0, 0),
-        Item::Aoci => capital(no_amount(), x, 0, 0),
-        Item::B => capital(no_amount(), no_amount(), x.plus, 0),
-        Item::C => capital(no_amount(), no_amount(), 0, x.plus),
+        Item::Equity => Sums {
+            equity: x,
+            ..other()
+        },
+        Item::Aoci => Sums { aoci: x, ..other() },
+        Item::B => Sums {
+            b: x.plus,
+            ..other()
+        },
+        Item::C => Sums {
+            c: x.plus,
+            ..other()
+        },
     }
 }
 
 // 1 for a loan without a score, else 0.
+// Kept: a number and no bool, here and in `fresh`, since the definitions unscored_count and fresh_count are counts, which the sums add up.
 pub fn unscored(score: Score) -> u64
     ensures { result ≡ unscored_count score }
 {
@@ -153,12 +112,7 @@ pub fn fresh(score: Score) -> u64
     ensures { result ≡ fresh_count score }
 {
     match score {
-        Score::Scored { number: _, age } => {
-            if age <= 12 {
-                return 1;
-            }
-            0
-        }
+        Score::Scored { number: _, age } => { u64::from(age <= 12) }
         Score::Unscored => 0,
     }
 }
@@ -171,41 +125,30 @@ fn factor(h: Header, score: Score, rates: &Rates) -> u64
 }
 
 // A loan whose property value is adjusted by `a`.
+// Kept: `LoanRanges l` is asked and is no invariant of Loan, since `Content` holds loans out of range (definitions content_of, line_for).
 pub fn loan(h: Header, l: Loan, a: Adjustment, exps: &Exponentials, rates: &Rates) -> Sums
-    requires { LoanRanges l × AdjustmentRanges a × (exps.now ≡ exponentials) × RatesInRange rates.now }
+    requires { LoanRanges l × AdjustmentRanges a × RatesInRange rates.now }
     ensures { result ≡ share_with (under h rates.now) a l }
 {
-    let score = l.score;
-    let m = factor(h, score, rates);
-    let applies = l.supplement == 1;
-    let value = l.value * a.last;
-    let over = l.balance * a.own;
     let inputs = LoanInputs {
-        value,
-        over,
+        value: l.value * a.last,
+        over: l.balance * a.own,
         balance: l.balance,
         months: l.amortization,
         term: l.term,
-        supplement: applies,
-        factor: m,
+        supplement: l.supplement == 1,
+        factor: factor(h, l.score, rates),
     };
     let charge = loan_charge::charge::charge(inputs, exps);
-    let total = charge.total;
-    let supplement = charge.supplement;
     Sums {
         counts: Counts {
             loans: 1,
-            unscored: unscored(score),
-            fresh: fresh(score),
+            unscored: unscored(l.score),
+            fresh: fresh(l.score),
             other: 0,
         },
-        total,
-        supplement,
-        rest: no_money(),
-        moved: no_money(),
-        equity: no_amount(),
-        aoci: no_amount(),
-        b: 0,
-        c: 0,
+        total: charge.total,
+        supplement: charge.supplement,
+        ..figures::none()
     }
 }

@@ -9,6 +9,10 @@ use borrow.Author.Tests.{eqb-true, leb-true, eqb-false, leb-false, lt-leb, le-le
 use lib.Dec.{leb, eqb}
 use lib.ListN.{length, get_or, take, set}
 use lib.Seq.{take-suc, take-suc-set}
+use native.Mathlib.Numerals.{add-one}
+use Rattle.std.specs.List.{list_all, range_with_len}
+use Rattle.std.proofs.lemmas.List.Folds.{list_all-append, list_all-map}
+use Rattle.std.proofs.lemmas.List.FromFn.{map-range_with_len_more}
 use Rattle.loan_charge.specs.CreditFactor.{hundredths}
 use Rattle.sheet.specs.Sheet.{SheetRules, place_passes_lem, places_pass, sheet_passes}
 
@@ -101,6 +105,21 @@ passes s r = rw (eq-eqb (length s) 66 r.size) (first 66 (omega arith))
     first : (n : ℕ) → n ≤ 66 → places_pass s n ≡ true
     first zero h = refl
     first (suc n) h = rw (first n (omega arith), place-passes s r n (omega arith)) refl
+
+alone : (a : Bool) → (a && true) ≡ a
+alone true = refl
+alone false = refl
+
+-- the test of the first n places is that of all numbers below n
+pub places : (s : List ℕ) (n : ℕ) → list_all (place_passes_lem s) (range_with_len 0 n) ≡ places_pass s n
+unfolding places_pass
+places s zero = refl
+places s (suc n) =
+    let p = place_passes_lem s in
+    sym (list_all-map (λ b. b) p (range_with_len 0 (suc n)))
+    ∙ ap (list_all (λ b. b)) (rw (add-one n) at (map-range_with_len_more p 0 n n (omega arith)))
+    ∙ list_all-append (λ b. b) (map p (range_with_len 0 n)) (p n ∷ [])
+    ∙ rw (list_all-map (λ b. b) p (range_with_len 0 n), places s n) (ap (λ (b : Bool). places_pass s n && b) (alone (p n)))
 
 -- one rate more
 pub filled : (l s : List ℕ) (k : ℕ) → k < length l → k < length s → take k l ≡ map hundredths (take k s) →

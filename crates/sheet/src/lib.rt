@@ -5,10 +5,10 @@ ghost use Rattle.std.specs.Prelude.{◌≡◌, true, ◌<◌, get_or};
 ghost use Rattle.loan_charge.specs.CreditFactor.{built_in_sheet, built_in_rates_lem, rates_of_lem};
 ghost use Rattle.sheet.specs.Sheet.{place_passes_lem, sheet_passes};
 
-use loan_charge::credit::Rates;
+use loan_charge::credit::{RATES, Rates};
 
-// As many factors in hundredths as a table has rates.
-pub type Sheet = [u64; loan_charge::credit::RATES];
+// As many factors in hundredths as a table has rates. The two names of one type say which of them is meant.
+pub type Sheet = [u64; RATES];
 
 // The regulator's table: eleven bands of scores, six ages each. It is made once and lent, since a constant array would be stored at every use.
 pub fn built_in() -> Sheet
@@ -26,9 +26,10 @@ pub fn built_in() -> Sheet
 fn at(sheet: &[u64], k: usize) -> u64
     ensures { result ≡ get_or sheet.now k 0 }
 {
-    if k < sheet.len() { sheet[k] } else { 0 }
+    sheet.get(k).copied().unwrap_or(0)
 }
 
+#[tactic(auto, unfolding(crate::specs::Sheet::place_passes_lem))]
 fn place_passes(sheet: &[u64], k: usize) -> bool
     requires { k < 66 }
     ensures { result ≡ place_passes_lem sheet.now k }
@@ -43,16 +44,7 @@ fn place_passes(sheet: &[u64], k: usize) -> bool
 pub fn passes(sheet: &[u64]) -> bool
     ensures { result ≡ sheet_passes sheet.now }
 {
-    if sheet.len() != loan_charge::credit::RATES {
-        return false;
-    }
-    let mut ok = true;
-    let mut k = 0;
-    while k < loan_charge::credit::RATES {
-        ok = ok & place_passes(sheet, k);
-        k += 1;
-    }
-    ok
+    (sheet.len() == RATES) && (0..RATES).all(|k| place_passes(sheet, k))
 }
 
 // The rates of a sheet that passes.
@@ -60,11 +52,9 @@ fn rates_of(sheet: &[u64]) -> Rates
     requires { sheet_passes sheet.now ≡ true }
     ensures { result ≡ rates_of_lem sheet.now }
 {
-    let mut rates = [0u64; loan_charge::credit::RATES];
-    let mut k = 0;
-    while k < loan_charge::credit::RATES {
-        rates[k] = sheet[k] * 1000000000000000;
-        k += 1;
+    let mut rates = [0u64; RATES];
+    for (k, rate) in rates.iter_mut().enumerate() {
+        *rate = sheet[k] * 1000000000000000;
     }
     rates
 }
@@ -74,14 +64,12 @@ pub fn fill(rates: &mut Rates, sheet: &[u64])
     requires { sheet_passes sheet.now ≡ true }
     ensures { rates.new ≡ rates_of_lem sheet.now }
 {
-    let new = rates_of(sheet);
-    *rates = new;
+    *rates = rates_of(sheet);
 }
 
 // The rates of the regulator's table.
 pub fn built_in_rates() -> Rates
     ensures { result ≡ built_in_rates_lem }
 {
-    let sheet = built_in();
-    rates_of(&sheet)
+    rates_of(&built_in())
 }

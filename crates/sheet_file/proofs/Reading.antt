@@ -10,8 +10,7 @@ use borrow.Author.Tests.{lt-ltb, le-ltb}
 use lib.ListN.{length, get_or, replicate, take, drop, set, length-append, length-set, length-drop, drop_of_length-le}
 use lib.Seq.{take_all, take-suc-set, take-append-le, get_or-set_other}
 use Rattle.line_forms.specs.Parsing.{number_at}
-use Rattle.sheet_file.specs.declared.Numbers.{Numbers}
-use Rattle.sheet_file.specs.NumberList.{NumberText, none, most, ZeroFrom, ReadsNumbers}
+use Rattle.sheet_file.specs.NumberList.{Numbers, NumberText, none, most, ZeroFrom, ReadsNumbers}
 use Rattle.sheet_file.specs.Reading.{put_after, count_after}
 use Rattle.sheet_file.proofs.NumberTexts.{next_at, Left, empty-text, taken, put_first}
 

@@ -1,7 +1,6 @@
 -- A file that is a list of numbers (02, L3): after each number one space or one newline, which may be missing after the last.
-use Rattle.std.specs.Prelude.{ℕ, ◌≤◌, ◌<◌, min, true, false, List, [], ◌∷◌, ◌++◌, ◌↔◌, ◌⊎◌, ◌≡◌, length, get_or, take}
+use Rattle.std.specs.Prelude.{ℕ, Bool, Option, Some, None, ◌≤◌, ◌<◌, min, true, false, List, [], ◌∷◌, ◌++◌, ◌↔◌, ◌⊎◌, ◌≡◌, length, get_or, take}
 use Rattle.line_forms.specs.Numerals.{decimal, limit}
-use Rattle.sheet_file.specs.declared.Numbers.{Numbers}
 
 -- the byte after a number: a space or a newline
 abbrev pub Separator : ℕ → Type 0
@@ -22,6 +21,16 @@ most = 67
 pub record ZeroFrom (n : ℕ) (out : List ℕ) : Type 0 where
   pub room : length out ≡ most
   pub zero : (i : ℕ) → n ≤ i → get_or out i 0 ≡ 0
+
+-- How many numbers were handed out, and whether the bytes are a list of numbers,
+pub record Numbers : Type 0 where
+  pub count : ℕ
+  pub good : Bool
+
+-- as the code's answer says it.
+abbrev pub numbers_of : Option ℕ → Numbers
+numbers_of (Some n) = record { count = n; good = true }
+numbers_of None = record { count = 0; good = false }
 
 -- What the answer r for some bytes says of them, where it left `out`: it is good where they are a list of numbers and only there. Then
 -- the first `count` of `out` are these numbers, or the first 67 of them where they are more; of other bytes it hands out none. What is left of

@@ -2,7 +2,7 @@
 #![tactic(auto)]
 
 ghost use Rattle.std.specs.Prelude.{◌≡◌};
-ghost use Rattle.sheet_file.specs.NumberList.{ZeroFrom, ReadsNumbers};
+ghost use Rattle.sheet_file.specs.NumberList.{ZeroFrom, ReadsNumbers, numbers_of};
 ghost use Rattle.sheet_file.specs.Reading.{after_separator_lem, put_after, count_after};
 
 // One more than the 66 of a sheet, so that a longer list is told from a sheet.
@@ -11,14 +11,8 @@ pub const MOST: usize = 67;
 // Where the numbers are put.
 pub type Room = [u64; MOST];
 
-// How many numbers were handed out, and whether the bytes are a list of numbers.
-#[derive(Clone, Copy)]
-pub struct Numbers {
-    pub count: usize,
-    pub good: bool,
-}
-
 // The position after the separator; past the end where another byte stands. At the end none is needed.
+// Kept: no Option, since the definition after_separator_lem, and with it what reading comes to, goes past the end there.
 fn after_separator(bytes: &[u8], at: usize) -> usize
     ensures { result ≡ after_separator_lem bytes.now at }
 {
@@ -52,10 +46,10 @@ fn put(out: &mut Room, count: usize, n: u64) -> usize
     count
 }
 
-// The numbers of a list of numbers, from the first on, and 0 after them. A number or a separator that is missing leads past the end: then the
-// bytes are no list, and none is handed out.
-pub fn numbers_in(bytes: &[u8], out: &mut Room) -> Numbers
-    ensures { ReadsNumbers bytes.now result out.new }
+// The numbers of a list of numbers, from the first on, and 0 after them; the result is how many. A number or a separator that is missing leads
+// past the end: then the bytes are no list, and none is handed out.
+pub fn numbers_in(bytes: &[u8], out: &mut Room) -> Option<usize>
+    ensures { ReadsNumbers bytes.now (numbers_of result) out.new }
 {
     clear(out);
     let mut at = 0;
@@ -66,11 +60,8 @@ pub fn numbers_in(bytes: &[u8], out: &mut Room) -> Numbers
         at = after_separator(bytes, n.next);
     }
     if at == bytes.len() {
-        return Numbers { count, good: true };
+        return Some(count);
     }
     clear(out);
-    Numbers {
-        count: 0,
-        good: false,
-    }
+    None
 }

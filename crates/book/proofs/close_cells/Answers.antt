@@ -1,27 +1,23 @@
-use mathlib.Core.Path.{sym, ◌∙◌}
-use lib.ListN.{length}
-use Rattle.book_model.specs.Calls.{cells_size}
-use Rattle.book_model.proofs.Closings.{refused, written, closes-0}
+use Rattle.std.proofs.Common.{rules}
+use Rattle.book_model.specs.Calls.{cells_text_of}
+use Rattle.book.proofs.Answers.{not-closed, closed-into}
 use Rattle.book.proofs.close_cells.Goals as goal
 
-pub returns-then-refusal-ne0 : goal.returns-then-refusal-ne0
-returns-then-refusal-ne0 c =
-    let answer = refused cells_size _ _ _ c.closing_refusal-refusal.ensures c.if-refusal-ne0.true in
+-- `close_cells` meets its contract.
+
+pub returns-in_err-may_close : goal.returns-in_err-may_close
+returns-in_err-may_close c =
+    let a = c.args in
+    let answer = not-closed 8192 a.b.now (cells_text_of a.cells.now) a.out.now c.in_err-may_close.field-0.0 c.in_err-may_close.ensures (search rules) in
     record {
       equation = answer.0;
       bytes = answer.1;
     }
 
-pub put_cells-length-requires : goal.put_cells-length-requires
-put_cells-length-requires c =
-    let a = c.args in
-    ((closes-0 cells_size a.b.header a.b.sums.counts (length a.out.now)).0
-    (sym c.closing_refusal-refusal.ensures ∙ c.if-refusal-ne0.false)).1
-
 pub returns : goal.returns
 returns c =
-    let answer = written cells_size _ _ _ (sym c.closing_refusal-refusal.ensures ∙
-    c.if-refusal-ne0.false) c.put_cells-length.ensures in
+    let a = c.args in
+    let answer = closed-into 8192 a.b.now (cells_text_of a.cells.now) a.out.now c.in_ok-may_close.ensures c.put_cells.ensures in
     record {
       equation = answer.0;
       bytes = answer.1;

@@ -1,32 +1,36 @@
-use Rattle.book.proofs.Answers.{opened, not_opened}
+use mathlib.Core.Path.{sym, ◌∙◌}
+use Rattle.std.proofs.Common.{rules}
+use Rattle.book.proofs.Answers.{opened, sheet-refused, header-refused}
 use Rattle.book.proofs.open_sheet.Goals as goal
 
-pub returns-in-Header : goal.returns-in-Header
-returns-in-Header c =
+-- `open_sheet` meets its contract.
+
+pub returns-in_err-header : goal.returns-in_err-header
+returns-in_err-header c =
     let a = c.args in
-    let answer = opened a.sheet.now a.line.now c.read_header-read.ensures.equation c.clear.ensures
-    c.clear-2.ensures c.clear-3.ensures
-    c.in-Header.header c.in-Header.is c.open_under.ensures.equation c.open_under.ensures.rates in
+    let answer = header-refused a.sheet.now a.line.now c.read_header.ensures.equation c.in_err-header.field-0.0 c.in_err-header.was c.from_residual.result (search rules)
+    c.reset.ensures in
     record {
       equation = answer.0;
-      rates = answer.1.0;
-      cells = answer.1.1.0;
-      index = answer.1.1.1.0;
-      marks = answer.1.1.1.1.0;
-      sound = answer.1.1.1.1.1;
+      sound = answer.1;
     }
 
-pub returns-in-Refusal : goal.returns-in-Refusal
-returns-in-Refusal c =
+pub returns-then-not-passes : goal.returns-then-not-passes
+returns-then-not-passes c =
     let a = c.args in
-    let answer = not_opened a.sheet.now a.line.now c.read_header-read.ensures.equation c.clear.ensures
-    c.clear-2.ensures c.clear-3.ensures
-    c.in-Refusal.refusal c.in-Refusal.is c.refused.ensures.equation c.refused.ensures.rates in
+    let answer = sheet-refused a.sheet.now a.line.now c.read_header.ensures.equation c.in_ok-header.header c.in_ok-header.was
+    (sym c.passes.ensures ∙ search rules) c.reset.ensures in
     record {
       equation = answer.0;
-      rates = answer.1.0;
-      cells = answer.1.1.0;
-      index = answer.1.1.1.0;
-      marks = answer.1.1.1.1.0;
-      sound = answer.1.1.1.1.1;
+      sound = answer.1;
+    }
+
+pub returns : goal.returns
+returns c =
+    let a = c.args in
+    let answer = opened a.sheet.now a.line.now c.read_header.ensures.equation c.in_ok-header.header c.in_ok-header.was
+    (sym c.passes.ensures ∙ search rules) c.reset.ensures c.empty-open_book.ensures c.fill.ensures in
+    record {
+      equation = answer.0;
+      sound = answer.1;
     }

@@ -1,14 +1,14 @@
 -- The file's book is joined without its marks.
-use mathlib.Core.Path.{refl}
-use Rattle.book.proofs.Answers.{without-marks}
-use Rattle.capital.proofs.Files.{next-read}
+use native.Mathlib.Omega.{arith}
+use Rattle.book_model.proofs.Joining.{without-marks-sound}
+use Rattle.capital.proofs.Files.{next-read, next-told}
 use Rattle.capital.proofs.join_next.Goals as goal
 
-pub join_file-turn-requires : goal.join_file-turn-requires
-join_file-turn-requires c = (c.requires.0, without-marks c.read_file-region.ensures.sound, c.requires.3)
+pub join_file-printed-requires : goal.join_file-printed-requires
+join_file-printed-requires c = (c.requires, without-marks-sound c.in_ok-p.ensures.sound, omega arith)
 
 pub returns : goal.returns
 returns c =
-    let read = c.read_file-region in
-    let (input, e) = read.ensures.read c.if-region.false in
-    next-read _ _ _ _ read.result.progress input e c.requires.0 read.ensures.sound refl c.join_file-turn.ensures
+    let (input, e) = c.in_ok-p.ensures.read in
+    next-told c.join_file-printed.result
+    (next-read _ _ _ _ c.in_ok-p.p c.read_file.new.open_book input e c.requires c.in_ok-p.ensures.sound c.join_file-printed.ensures)

@@ -6,5 +6,4 @@ use Rattle.capital.proofs.read_all.Given as goal
 
 abbrev pub invariant-loop : goal.invariant-loop
 invariant-loop g l =
-    Running l.run l.rates l.cells l.index l.marks × Reached l.sheet (reading_of l.run l.sheet l.rates l.cells l.index l.marks) l.run.read
-    × (l.run.read ≤ 65536 * l.counter)
+    Running l.run l.open_book × Reached l.sheet (reading_of l.run l.sheet l.open_book) l.run.read × (l.run.read ≤ 65536 * l.counter)

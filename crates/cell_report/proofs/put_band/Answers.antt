@@ -1,15 +1,13 @@
-use borrow.Author.Rules.{rules}
-use Rattle.report.proofs.Onto.{nothing_written, written_then}
+-- The line of each column is written to what remains after those before it.
+use Rattle.std.proofs.Common.{refl, arith}
+use Rattle.report.proofs.Onto.{nothing_written, written-more}
+use Rattle.cell_report.proofs.Laws.{columns_more}
 use Rattle.cell_report.proofs.put_band.Goals as goal
 
--- `put_band` meets its contract: five lines, each added after those before.
--- Assumes nothing.
+pub loop-ltv-init : goal.loop-ltv-init
+loop-ltv-init c = (omega arith, refl, nothing_written _)
 
-pub returns : goal.returns
-returns c =
-    record {
-      lines = written_then (written_then (written_then (written_then (written_then (nothing_written c.args.out.now)
-          c.add_cell-one.ensures.line) c.add_cell-two.ensures.line) c.add_cell-three.ensures.line) c.add_cell-four.ensures.line)
-          c.add_cell.ensures.line;
-      short = search rules;
-    }
+pub loop-ltv-preserved : goal.loop-ltv-preserved
+loop-ltv-preserved c =
+    let cell = rw c.cell_at.ensures at c.put_cell-at.ensures.line in
+    (omega arith, omega arith, rw (columns_more _ c.args.band c.loop-ltv.ltv (omega arith)) (written-more c.loop-ltv.invariant.2 cell))

@@ -1,23 +1,14 @@
-use mathlib.Core.Path.{◌≡◌, refl}
-use native.Mathlib.Omega.{arith}
-use borrow.Author.Rules.{rules}
+-- The lines of each band are written to what remains after those before it.
+use Rattle.std.proofs.Common.{refl, arith}
 use Rattle.report.proofs.Onto.{nothing_written, written-more}
 use Rattle.cell_report.specs.CellReport.{bands_text}
-use Rattle.cell_report.proofs.Laws.{bands-more}
+use Rattle.cell_report.proofs.Laws.{bands_more}
 use Rattle.cell_report.proofs.put_cells.Goals as goal
 
-pub loop-bands-init : goal.loop-bands-init
+pub loop-band-init : goal.loop-band-init
 unfolding bands_text
-loop-bands-init c =
-    (search rules, search rules, refl, nothing_written _)
+loop-band-init c = (omega arith, refl, nothing_written _)
 
-pub loop-bands-preserved : goal.loop-bands-preserved
-loop-bands-preserved c =
-    let loop = c.loop-bands in
-    let band = c.put_band-at.ensures in
-    (search rules, search rules, search rules, rw (bands-more _ loop.bands) (written-more loop.invariant.3 band.lines))
-
-pub returns : goal.returns
-returns c =
-    let e : c.loop-bands.bands ≡ 12 = omega arith in
-    rw e at c.loop-bands.invariant.3
+pub loop-band-preserved : goal.loop-band-preserved
+loop-band-preserved c =
+    (omega arith, omega arith, rw (bands_more _ c.loop-band.band (omega arith)) (written-more c.loop-band.invariant.2 c.put_band-at.ensures.lines))

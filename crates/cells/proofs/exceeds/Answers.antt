@@ -1,13 +1,14 @@
+use mathlib.Core.Bool.{Bool, true, false}
+use Prim.Native.Nat.{◌≤◌}
 use native.Mathlib.Omega.{arith}
-use borrow.Author.Tests.{lt-ltb, le-ltb}
+use mir.Val.{bool_byte}
+use Rattle.book_model.proofs.Tests.{byte-pick}
 use Rattle.cells.proofs.exceeds.Goals as goal
 
-pub returns-then-limit-x : goal.returns-then-limit-x
-returns-then-limit-x c =
-    let a = c.args in
-    (simp (lt-ltb a.limit a.x (omega (arith, c.if-limit-x.true))), omega arith)
+byte-small : (t : Bool) → bool_byte t ≤ 1
+byte-small true = omega arith
+byte-small false = omega arith
 
-pub returns-else-limit-x : goal.returns-else-limit-x
-returns-else-limit-x c =
-    let a = c.args in
-    (simp (le-ltb a.limit a.x (omega (arith, c.if-limit-x.false))), omega arith)
+pub returns : goal.returns
+returns c =
+    rw c.from.ensures (byte-pick _, byte-small _)

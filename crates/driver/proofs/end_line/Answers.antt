@@ -1,44 +1,47 @@
-use Rattle.driver.proofs.LineLaws.{ended-refused, ended-opened, ended-fed}
+use mathlib.Core.Path.{◌≡◌, sym, ◌∙◌}
+use Prim.Native.Nat.{◌+◌}
+use lib.Dec.{eqb}
+use Rattle.exact.specs.Choice.{pick}
+use Rattle.book_model.specs.Calls.{told}
+use Rattle.driver.specs.Reading.{stage_at}
+use Rattle.driver.proofs.LineLaws.{told-err, told-ok, number-after, ended-refused, ended-answered}
 use Rattle.driver.proofs.end_line.Goals as goal
 
 -- `end_line` meets its contract.
 
-pub returns-then-p-ne0 : goal.returns-then-p-ne0
-returns-then-p-ne0 c =
+pub returns-then-is_err : goal.returns-then-is_err
+returns-then-is_err c =
     let a = c.args in
-    let answer = ended-refused a.p a.sheet.now a.rates.now a.cells.now a.index.now a.marks.now a.line.now
-    c.requires.0
-    c.if-p-ne0.true in
+    let answer = ended-refused (stage_at a.p.now a.sheet.now a.open_book.now) a.line.now c.requires.0
+    (told-err a.p.now.answer (sym c.is_err.ensures.value ∙ c.if-is_err.true)) in
     record {
       equation = answer.0;
       sound = answer.1.0;
       number = answer.1.1;
     }
 
-pub returns-then-number-eq1 : goal.returns-then-number-eq1
-returns-then-number-eq1 c =
+pub returns-then-is_ok : goal.returns-then-is_ok
+returns-then-is_ok c =
     let a = c.args in
-    let o = c.open_sheet-opened in
-    let answer = ended-opened a.p a.sheet.now a.rates.now a.cells.now a.index.now a.marks.now a.line.now c.requires.0 o.result
-    c.answered.result
-    o.new.rates o.new.cells o.new.index o.new.marks
-    c.if-p-ne0.false c.if-number-eq1.true o.ensures.equation o.ensures.rates o.ensures.cells
-    o.ensures.index o.ensures.marks c.answered.ensures in
+    let r = c.answer_to-p.result in
+    let n = a.p.now.number in
+    let number : n + 1 ≡ pick (eqb (told r) 0) (n + 1) n = rw (← c.is_ok.ensures.value, c.if-is_ok.true) at (number-after r n) in
+    let answer = ended-answered (stage_at a.p.now a.sheet.now a.open_book.now) a.line.now c.requires.0
+    (told-ok a.p.now.answer (sym c.is_err.ensures.value ∙ c.if-is_err.false)) c.answer_to-p.ensures number in
     record {
       equation = answer.0;
       sound = answer.1.0;
       number = answer.1.1;
     }
 
-pub returns : goal.returns
-returns c =
+pub returns-else-is_ok : goal.returns-else-is_ok
+returns-else-is_ok c =
     let a = c.args in
-    let o = c.feed_with-fed in
-    let answer = ended-fed a.p a.sheet.now a.rates.now a.cells.now a.index.now a.marks.now a.line.now c.requires.0 o.result
-    c.answered-2.result
-    o.new.cells o.new.index o.new.marks
-    c.if-p-ne0.false c.if-number-eq1.false o.ensures.equation o.ensures.cells
-    o.ensures.index o.ensures.marks c.answered-2.ensures in
+    let r = c.answer_to-p.result in
+    let n = a.p.now.number in
+    let number : n ≡ pick (eqb (told r) 0) (n + 1) n = rw (← c.is_ok.ensures.value, c.if-is_ok.false) at (number-after r n) in
+    let answer = ended-answered (stage_at a.p.now a.sheet.now a.open_book.now) a.line.now c.requires.0
+    (told-ok a.p.now.answer (sym c.is_err.ensures.value ∙ c.if-is_err.false)) c.answer_to-p.ensures number in
     record {
       equation = answer.0;
       sound = answer.1.0;

@@ -33,10 +33,10 @@ returns-then-size-end c =
       number = l.invariant.2;
     }
 
-pub end_line-p-requires : goal.end_line-p-requires
-end_line-p-requires c =
+pub end_line-requires : goal.end_line-requires
+end_line-requires c =
     let l = c.loop-i in
-    (l.invariant.1, omega (arith, c.requires.1), l.invariant.4)
+    (l.invariant.1, omega (arith, c.requires.1))
 
 pub overflow_add-i : goal.overflow_add-i
 overflow_add-i c =
@@ -52,16 +52,14 @@ pub loop-i-preserved : goal.loop-i-preserved
 loop-i-preserved c =
     let a = c.args in
     let l = c.loop-i in
-    let e = c.line_end-end in (
-      (λ j. record { stage = c.end_line-p.ensures.equation j; tail = [] })
-          ∙ sym (line_read (record { stage = stage_at a.before a.sheet.now a.rates.now a.cells.now a.index.now a.marks.now; tail = [] })
-          a.bytes.now
-          (stage_at l.p a.sheet.now l.rates l.cells l.index l.marks) l.i e.result l.invariant.0 (omega arith) e.ensures.equation
-          (omega arith)),
-      c.end_line-p.ensures.sound,
-      omega (arith, c.end_line-p.ensures.number, l.invariant.2, e.ensures.inside),
+    let e = c.line_end-end in
+    let n = c.end_line.ensures in (
+      (λ j. record { stage = n.equation j; tail = [] })
+          ∙ sym (line_read (record { stage = stage_at a.p.now a.sheet.now a.open_book.now; tail = [] }) a.bytes.now
+          (stage_at l.p a.sheet.now l.open_book) l.i e.result l.invariant.0 (omega arith) e.ensures.equation (omega arith)),
+      n.sound,
+      omega (arith, n.number, l.invariant.2, e.ensures.inside),
       omega arith,
-      l.invariant.4,
     )
 
 pub returns : goal.returns

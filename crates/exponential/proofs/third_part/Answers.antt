@@ -10,10 +10,6 @@ pub overflow_sub-result : goal.overflow_sub-result
 overflow_sub-result c =
     omega (arith, half-square-most c.args.r c.ranges.r.fits, c.requires)
 
-pub overflow_mul-result-2 : goal.overflow_mul-result-2
-overflow_mul-result-2 c =
-    omega arith
-
 pub returns : goal.returns
 unfolding third_part_lem
 returns c =

@@ -1,8 +1,7 @@
 use mathlib.Core.Path.{sym, ◌∙◌, ap, ap₂}
 use Prim.Native.Nat.{◌+◌, min}
 use Rattle.fixed_point.specs.declared.Division.{Division}
-use Rattle.figures.proofs.DivisionLaws.{size-limit, quotient-small, size-up, size-down}
-use native.Mathlib.Omega.{arith}
+use Rattle.figures.proofs.DivisionLaws.{size-limit, size-up, size-down}
 use Rattle.figures.proofs.ratio_size.Goals as goal
 
 -- `figures::ratio_size` meets its contract: at the limit, rounded up, rounded down. Assumes nothing.
@@ -11,19 +10,11 @@ pub returns-then-n-d-ge10000 : goal.returns-then-n-d-ge10000
 returns-then-n-d-ge10000 c =
     sym (size-limit c.args.negative c.args.n c.args.d c.requires.0 c.if-n-d-ge10000.true)
 
-pub overflow_add-result : goal.overflow_add-result
-overflow_add-result c =
-    omega (
-      arith,
-      quotient-small c.args.n c.args.d c.requires.0 c.if-n-d-ge10000.false,
-      ap (λ (t : Division). t.quotient) c.divide_scaled-x.ensures,
-    )
-
 pub returns-then-negative : goal.returns-then-negative
 returns-then-negative c =
     let up = size-up c.args.n c.args.d c.requires.0 c.if-n-d-ge10000.false in
     let x = c.divide_scaled-x.ensures in
-    rw c.if-negative.true (ap₂ ◌+◌ (ap (λ (t : Division). t.quotient) x) (c.smaller.ensures
+    rw c.if-negative.true (ap₂ ◌+◌ (ap (λ (t : Division). t.quotient) x) (c.min.ensures
     ∙ ap (λ (t : Division). min t.remainder 1) x) ∙ sym up)
 
 pub returns : goal.returns

@@ -7,6 +7,6 @@ pub returns : goal.returns
 unfolding cells_in index_in
 returns c =
     record {
-      cells = c.copy.ensures;
-      index = c.copy-2.ensures;
+      cells = c.copy_from_slice.ensures.after;
+      index = c.copy_from_slice-2.ensures.after;
     }

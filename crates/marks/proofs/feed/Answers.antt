@@ -1,30 +1,14 @@
-use lib.Dec.{eqb}
-use Rattle.marks.proofs.Answers.{same-either}
+use Rattle.book_model.specs.Calls.{state_marked}
 use Rattle.marks.proofs.feed.Goals as goal
 
 -- `feed` meets its contract.
 
-pub returns-then-m : goal.returns-then-m
-returns-then-m c =
-    let back = c.if-m.true in
-    let answer = c.back_to.ensures in
-    record {
-      refusal = rw back answer.refusal;
-      book = rw back answer.book;
-      cells = rw back answer.cells;
-      index = rw back answer.index;
-      marks = rw back answer.marks;
-    }
+pub returns-then-m-clause-state : goal.returns-then-m-clause-state
+unfolding state_marked
+returns-then-m-clause-state c =
+    rw c.if-m.true c.back_to.ensures.state
 
-pub returns : goal.returns
-returns c =
-    let a = c.args in
-    let taken = eqb c.set_mark-refusal.result 0 in
-    let set = c.if-m.false in
-    record {
-      refusal = rw set c.set_mark-refusal.ensures.equation;
-      book = rw set (same-either taken a.b);
-      cells = rw set (same-either taken a.cells.now);
-      index = rw set (same-either taken a.index.now);
-      marks = rw set c.set_mark-refusal.ensures.marks;
-    }
+pub returns-else-m-clause-state : goal.returns-else-m-clause-state
+unfolding state_marked
+returns-else-m-clause-state c =
+    rw c.if-m.false c.set_mark.ensures.state

@@ -10,4 +10,4 @@ use Rattle.marks.proofs.put.Goals as goal
 pub returns : goal.returns
 returns c =
     let a = c.args in
-    rw (c.copy.ensures, Post-is a.at (a.at + length a.part.now) a.row.now (omega arith)) refl
+    rw (c.copy_from_slice.ensures.after, Post-is a.at (a.at + length a.part.now) a.row.now (omega arith)) refl

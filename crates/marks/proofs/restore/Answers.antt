@@ -3,6 +3,7 @@ use lib.ListN.{length}
 use mathlib.Core.Path.{◌≡◌, ◌∙◌, ap}
 use Prim.Native.Nat.{ℕ}
 use native.Mathlib.Numerals.{add-one}
+use Rattle.book_model.specs.Calls.{state_at}
 use Rattle.book_model.specs.Marks.{first_marks}
 use Rattle.marks.proofs.restore.Goals as goal
 
@@ -11,13 +12,8 @@ use Rattle.marks.proofs.restore.Goals as goal
 pub returns : goal.returns
 unfolding first_marks
 returns c =
+    let s = c.args.open_book.now in
     let tables = c.copy_tables.ensures in
-    let a = c.args in
-    let more = ap (λ (n : ℕ). first_marks n a.marks.now) (add-one a.at) in
-    let n : length a.marks.now ≡ 8 = omega arith in
-    record {
-      equation = c.book_in.ensures;
-      cells = tables.cells;
-      index = tables.index;
-      marks = c.clear_from.ensures ∙ rw n more;
-    }
+    let n : length s.marks ≡ 8 = omega arith in
+    let marks = c.clear_from.ensures ∙ rw n (ap (λ (n : ℕ). first_marks n s.marks) (add-one c.args.at)) in
+    λ i. state_at (c.book_in-open_book.ensures i) s.rates (tables.cells i) (tables.index i) (marks i)

@@ -1,37 +1,23 @@
-use mathlib.Core.Path.{refl, ◌∙◌, ap}
-use Prim.Native.Nat.{ℕ}
-use lib.ListN.{set}
-use Rattle.book_model.specs.Marks.{row_of}
-use Rattle.marks.proofs.Answers.{number_13, number_14, marked}
+use mathlib.Core.Path.{sym, ◌∙◌}
+use native.Mathlib.Omega.{arith}
+use Rattle.marks.proofs.Answers.{number_13, number_14, marked, inside, beyond}
 use Rattle.marks.proofs.set_mark.Goals as goal
 
 -- `set_mark` meets its contract.
 
-pub returns-then-found-lt-MOST : goal.returns-then-found-lt-MOST
-returns-then-found-lt-MOST c =
-    let found = c.find-found.ensures in
-    let a = c.args in
-    record {
-      equation = number_13 a.marks.now a.name found.0 found.2 c.if-found-lt-MOST.true;
-      marks = refl;
-    }
+pub returns-then-is_some-clause-refusal : goal.returns-then-is_some-clause-refusal
+returns-then-is_some-clause-refusal c =
+    let found = c.find.ensures in
+    number_13 c.args.open_book.now.marks c.args.name found.place (omega arith) (inside c.find.result (sym c.is_some.ensures ∙ c.if-is_some.true) found.inside)
 
-pub returns-then-free-ge-MOST : goal.returns-then-free-ge-MOST
-returns-then-free-ge-MOST c =
-    let free = c.find-free.ensures in
-    let found = c.find-found.ensures in
-    let a = c.args in
-    record {
-      equation = number_14 a.marks.now a.name found.0 found.2 c.if-found-lt-MOST.false free.0 c.if-free-ge-MOST.true;
-      marks = refl;
-    }
+pub returns-in_default-clause-refusal : goal.returns-in_default-clause-refusal
+returns-in_default-clause-refusal c =
+    let found = c.find.ensures in
+    let none = beyond c.find.result (sym c.is_some.ensures ∙ c.if-is_some.false) in
+    number_14 c.args.open_book.now.marks c.args.name found.place (omega arith) (omega (arith, none)) c.in_default.ensures.place (omega arith)
 
-pub returns : goal.returns
-returns c =
-    let free = c.find-free.ensures in
-    let found = c.find-found.ensures in
-    let a = c.args in
-    record {
-      equation = marked a.marks.now a.name found.0 found.2 c.if-found-lt-MOST.false free.0 c.if-free-ge-MOST.false;
-      marks = c.keep.ensures ∙ ap (λ (k : ℕ). set a.marks.now k (row_of a.name a.b a.cells.now a.index.now)) free.0;
-    }
+pub returns-clause-refusal : goal.returns-clause-refusal
+returns-clause-refusal c =
+    let found = c.find.ensures in
+    let none = beyond c.find.result (sym c.is_some.ensures ∙ c.if-is_some.false) in
+    marked c.args.open_book.now.marks c.args.name found.place (omega arith) (omega (arith, none)) c.in-Some.ensures.place c.in-Some.ensures.inside

@@ -1,8 +1,8 @@
-use Rattle.fixed_point.proofs.Laws.{bounded}
+use native.Mathlib.Nat.{mul-le-mul}
 use Rattle.other_charges.specs.Charges.{provision_tenths_lem}
 use Rattle.other_charges.proofs.ChargeLaws.{tenths-bounded}
-use mathlib.Core.Path.{◌≡◌, refl}
-use Prim.Native.Nat.{ℕ, ◌*◌, ◌≤◌}
+use mathlib.Core.Path.{◌≡◌}
+use Prim.Native.Nat.{ℕ, ◌≤◌}
 use native.Mathlib.Omega.{arith}
 use Rattle.other_charges.proofs.provision_parts.Goals as goal
 
@@ -13,7 +13,7 @@ pub overflow_mul-result : goal.overflow_mul-result
 overflow_mul-result c =
     omega (
       arith,
-      bounded c.args.premium c.provision_tenths-tenths.result 100000000 60 c.requires.0
+      mul-le-mul c.requires.0
           (tenths-small c.args.term c.args.done c.provision_tenths-tenths.ensures),
     )
 
@@ -21,11 +21,7 @@ pub overflow_mul-result-2 : goal.overflow_mul-result-2
 overflow_mul-result-2 c =
     omega (
       arith,
-      bounded (c.args.premium * c.provision_tenths-tenths.result) c.args.scale (100000000 * 60) 12500
-          (bounded c.args.premium c.provision_tenths-tenths.result 100000000 60 c.requires.0
+      mul-le-mul
+          (mul-le-mul c.requires.0
           (tenths-small c.args.term c.args.done c.provision_tenths-tenths.ensures)) c.requires.1,
     )
-
-pub returns : goal.returns
-returns c =
-    rw c.provision_tenths-tenths.ensures refl

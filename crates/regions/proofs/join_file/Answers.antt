@@ -2,50 +2,42 @@ use mathlib.Core.Path.{refl, sym, ◌∙◌, ap}
 use mathlib.Core.List.{[]}
 use native.Mathlib.Omega.{arith}
 use lib.ListN.{length}
-use Rattle.book_model.specs.declared.Joined.{Joined}
-use Rattle.book_model.specs.Calls.{State, state_at}
-use Rattle.book_model.specs.Marks.{no_marks}
+use Rattle.std.proofs.Common.{rules}
+use Rattle.line_forms.proofs.Refusals.{number-some}
+use Rattle.book_model.specs.Calls.{Answer}
+use Rattle.book_model.specs.JoiningLaws.{without_marks}
 use Rattle.driver.specs.Reading.{Stage, stage_at}
 use Rattle.printing.proofs.Answers.{refusal-room}
-use Rattle.regions.proofs.NextFile.{by-book, file-alone, file-16, file-on, left_by}
+use Rattle.regions.specs.Regions.{reports}
+use Rattle.regions.proofs.NextFile.{file-alone, file-16, file-on}
 use Rattle.regions.proofs.join_file.Goals as goal
 
 pub returns-then-not-reports : goal.returns-then-not-reports
+unfolding reports
 returns-then-not-reports c =
-    let file : Stage =
-    stage_at c.args.p [] c.args.rates.now c.args.cells.now c.args.index.now no_marks in
-    let before : State =
-    state_at c.args.total c.args.total_rates.now c.args.total_cells.now c.args.total_index.now no_marks in
-    file-alone c.args.asked before c.args.file file
-    (sym (c.reports.ensures ∙ by-book c.args.p [] c.args.rates.now c.args.cells.now c.args.index.now no_marks)
-    ∙ c.if-not-reports.true)
-    c.put_answer-n.ensures
+    let a = c.args in
+    let file : Stage = stage_at a.p [] (without_marks a.own.now) in
+    file-alone a.asked (without_marks a.before.now) a.file file (sym c.reports.ensures ∙ search rules) c.put_answer.ensures
 
-pub put_refusal-n-requires : goal.put_refusal-n-requires
-put_refusal-n-requires c =
-    refusal-room 16 c.args.file (length c.args.out.now) (omega arith) (omega arith) (omega (arith, c.requires.2))
+pub put_refusal-requires : goal.put_refusal-requires
+put_refusal-requires c =
+    refusal-room c.number.result c.args.file (length c.args.out.now) (omega arith) (omega arith) (omega (arith, c.requires.2))
 
-pub returns-then-joined-ne0 : goal.returns-then-joined-ne0
-returns-then-joined-ne0 c =
-    let file : Stage =
-    stage_at c.args.p [] c.args.rates.now c.args.cells.now c.args.index.now no_marks in
-    let before : State =
-    state_at c.args.total c.args.total_rates.now c.args.total_cells.now c.args.total_index.now no_marks in
-    file-16 c.args.asked before c.args.file file
-    (sym (c.reports.ensures ∙ by-book c.args.p [] c.args.rates.now c.args.cells.now c.args.index.now no_marks)
-    ∙ c.if-not-reports.false)
-    (λ z. c.if-joined-ne0.true (ap (λ (r : Joined). r.refusal) c.join-joined.ensures.equation ∙ z))
-    c.put_refusal-n.ensures
+pub returns-in-Err : goal.returns-in-Err
+unfolding reports
+returns-in-Err c =
+    let a = c.args in
+    let file : Stage = stage_at a.p [] (without_marks a.own.now) in
+    let e = c.in-Err.ensures.equation in
+    file-16 a.asked (without_marks a.before.now) a.file file (sym c.reports.ensures ∙ search rules)
+    (c.number.ensures ∙ ap (λ (x : Answer). x.refusal) e) (λ z. number-some c.in-Err.refusal (sym c.number.ensures ∙ z))
+    c.put_refusal.ensures
 
 pub returns : goal.returns
+unfolding reports
 returns c =
-    let file : Stage =
-    stage_at c.args.p [] c.args.rates.now c.args.cells.now c.args.index.now no_marks in
-    let before : State =
-    state_at c.args.total c.args.total_rates.now c.args.total_cells.now c.args.total_index.now no_marks in
-    let e = c.join-joined.ensures in
-    file-on c.args.asked before c.args.file file
-    (sym (c.reports.ensures ∙ by-book c.args.p [] c.args.rates.now c.args.cells.now c.args.index.now no_marks)
-    ∙ c.if-not-reports.false)
-    (sym (ap (λ (r : Joined). r.refusal) e.equation) ∙ c.if-joined-ne0.false)
-    (left_by before file.state e.equation e.rates e.cells e.index e.marks) refl
+    let a = c.args in
+    let file : Stage = stage_at a.p [] (without_marks a.own.now) in
+    let e = c.in_default.ensures.equation in
+    file-on a.asked (without_marks a.before.now) a.file file (sym c.reports.ensures ∙ search rules)
+    (sym (ap (λ (x : Answer). x.refusal) e)) (ap (λ (x : Answer). x.state) e) refl

@@ -1,44 +1,39 @@
-use native.Mathlib.Omega.{arith}
-use Rattle.report.specs.Decimal.{signed}
-use Rattle.report.proofs.Lines.{one_field, one-length}
+-- The line from its name, its fields and its end. Its length gives the room for each.
+use Rattle.std.proofs.Common.{arith}
+use lib.Seq.{take_all}
+use Rattle.report.proofs.Fields.{fields_more, next_room}
+use Rattle.report.proofs.Lines.{begin, field, end}
+use Rattle.report.proofs.Onto.{written-more}
 use Rattle.report.proofs.put_line.Goals as goal
 
-pub put_marked-named-requires : goal.put_marked-named-requires
-put_marked-named-requires c =
-    omega (arith, (one-length c.args.name.now (signed c.args.value)))
+pub loop-field-init : goal.loop-field-init
+loop-field-init c = (begin (written-more c.put_bytes-at.ensures c.put_bytes-at-2.ensures), omega arith)
 
-pub slice_bounds-put_value-count : goal.slice_bounds-put_value-count
-slice_bounds-put_value-count c =
-    omega (arith, (one-length c.args.name.now (signed c.args.value)))
+pub slice_bounds-put_field-count : goal.slice_bounds-put_field-count
+slice_bounds-put_field-count c =
+    omega (arith, next_room c.args.fields.now c.loop-field.field-index (omega arith) c.requires c.loop-field.invariant.0)
 
-pub slice_bounds-put_value-start : goal.slice_bounds-put_value-start
-slice_bounds-put_value-start c =
-    omega (arith, (one-length c.args.name.now (signed c.args.value)))
+pub slice_bounds-put_field-start : goal.slice_bounds-put_field-start
+slice_bounds-put_field-start c =
+    omega (arith, next_room c.args.fields.now c.loop-field.field-index (omega arith) c.requires c.loop-field.invariant.0)
 
-pub put_value-requires : goal.put_value-requires
-put_value-requires c =
-    omega (arith, (one-length c.args.name.now (signed c.args.value)))
+pub put_field-at-requires : goal.put_field-at-requires
+put_field-at-requires c =
+    omega (arith, next_room c.args.fields.now c.loop-field.field-index (omega arith) c.requires c.loop-field.invariant.0)
 
-pub overflow_add-at : goal.overflow_add-at
-overflow_add-at c =
-    omega (arith, (one-length c.args.name.now (signed c.args.value)))
+pub overflow_add-at-in-loop-field : goal.overflow_add-at-in-loop-field
+overflow_add-at-in-loop-field c =
+    omega (
+      arith,
+      next_room c.args.fields.now c.loop-field.field-index (omega arith) c.requires c.loop-field.invariant.0,
+      c.put_field-at.ensures.count,
+    )
 
-pub slice_bounds-put_bytes-count : goal.slice_bounds-put_bytes-count
-slice_bounds-put_bytes-count c =
-    omega (arith, (one-length c.args.name.now (signed c.args.value)))
-
-pub slice_bounds-put_bytes-start : goal.slice_bounds-put_bytes-start
-slice_bounds-put_bytes-start c =
-    omega (arith, (one-length c.args.name.now (signed c.args.value)))
-
-pub put_bytes-requires : goal.put_bytes-requires
-put_bytes-requires c =
-    omega (arith, (one-length c.args.name.now (signed c.args.value)))
-
-pub overflow_add-result : goal.overflow_add-result
-overflow_add-result c =
-    omega (arith, (one-length c.args.name.now (signed c.args.value)))
+pub loop-field-preserved : goal.loop-field-preserved
+loop-field-preserved c =
+    (rw (fields_more c.args.fields.now c.loop-field.field-index (omega arith)) (field c.loop-field.invariant.0 c.put_field-at.ensures), omega arith)
 
 pub returns : goal.returns
 returns c =
-    one_field c.put_marked-named.ensures c.put_value.ensures c.put_bytes.ensures
+    let whole = rw (take_all c.loop-field.field-index c.args.fields.now (omega arith)) at c.loop-field.invariant.0 in
+    end whole c.put_bytes.ensures

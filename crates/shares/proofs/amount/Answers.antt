@@ -20,29 +20,19 @@ returns-in-Stated c =
 pub returns-in-Equity : goal.returns-in-Equity
 unfolding amount_share
 returns-in-Equity c =
-    rw (c.in-Equity.is, c.capital.ensures, c.no_amount.ensures) refl
+    rw (c.in-Equity.is, c.other.ensures) refl
 
 pub returns-in-Aoci : goal.returns-in-Aoci
 unfolding amount_share
 returns-in-Aoci c =
-    rw (c.in-Aoci.is, c.capital-in-Aoci.ensures, c.no_amount-in-Aoci.ensures) refl
+    rw (c.in-Aoci.is, c.other-in-Aoci.ensures) refl
 
 pub returns-in-B : goal.returns-in-B
 unfolding amount_share
 returns-in-B c =
-    rw (
-      c.in-B.is,
-      c.capital-in-B.ensures,
-      c.no_amount-in-B-2.ensures,
-      c.no_amount-in-B.ensures,
-    ) refl
+    rw (c.in-B.is, c.other-in-B.ensures) refl
 
 pub returns-in-C : goal.returns-in-C
 unfolding amount_share
 returns-in-C c =
-    rw (
-      c.in-C.is,
-      c.capital-in-C.ensures,
-      c.no_amount-in-C-2.ensures,
-      c.no_amount-in-C.ensures,
-    ) refl
+    rw (c.in-C.is, c.other-in-C.ensures) refl

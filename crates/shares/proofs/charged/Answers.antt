@@ -3,10 +3,4 @@ use Rattle.shares.proofs.charged.Goals as goal
 
 pub returns : goal.returns
 returns c =
-    rw (
-      c.other.ensures,
-      c.in_cents.ensures,
-      c.in_cents-2.ensures,
-      c.no_amount.ensures,
-      c.no_amount-2.ensures,
-    ) refl
+    rw (c.other.ensures, c.in_cents.ensures, c.in_cents-2.ensures) refl

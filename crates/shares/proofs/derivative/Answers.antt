@@ -5,4 +5,4 @@ use Rattle.shares.proofs.derivative.Goals as goal
 pub returns : goal.returns
 unfolding derivative_share
 returns c =
-    rw (c.charged.ensures, c.derivative_parts-parts.ensures, c.positive.ensures) refl
+    rw (c.charged.ensures, c.derivative_parts.ensures) refl

@@ -1,19 +1,12 @@
-use mathlib.Core.Path.{refl, sym, ap}
-use mathlib.Core.Bool.{Bool}
-use Rattle.exact.specs.Choice.{pick}
+use mathlib.Core.Path.{refl, ◌∙◌}
 use Rattle.book_model.specs.LineKinds.{fresh_count}
-use borrow.Author.Tests.{le-leb, lt-leb}
+use Rattle.book_model.proofs.Tests.{byte-pick}
 use Rattle.shares.proofs.fresh.Goals as goal
 
-pub returns-then-age-le12 : goal.returns-then-age-le12
+pub returns-in-Scored : goal.returns-in-Scored
 unfolding fresh_count
-returns-then-age-le12 c =
-    rw c.in-Scored.is (sym (ap (λ (t : Bool). pick t 1 0) (le-leb _ 12 c.if-age-le12.true)))
-
-pub returns-else-age-le12 : goal.returns-else-age-le12
-unfolding fresh_count
-returns-else-age-le12 c =
-    rw c.in-Scored.is (sym (ap (λ (t : Bool). pick t 1 0) (lt-leb _ 12 c.if-age-le12.false)))
+returns-in-Scored c =
+    rw c.in-Scored.is (c.from.ensures ∙ byte-pick _)
 
 pub returns-in-Unscored : goal.returns-in-Unscored
 unfolding fresh_count

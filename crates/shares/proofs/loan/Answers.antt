@@ -7,21 +7,18 @@ use Rattle.book_model.specs.Share.{numbers_with, share_with}
 use Rattle.book_model.specs.Terms.{Terms, under}
 use Rattle.shares.proofs.loan.Goals as goal
 
-pub overflow_mul-value : goal.overflow_mul-value
-overflow_mul-value c =
+pub overflow_mul-inputs : goal.overflow_mul-inputs
+overflow_mul-inputs c =
     omega (arith, (ratio-ranges c.args.a c.args.l c.requires.0 c.requires.1).value_most)
 
-pub overflow_mul-over : goal.overflow_mul-over
-overflow_mul-over c =
+pub overflow_mul-inputs-2 : goal.overflow_mul-inputs-2
+overflow_mul-inputs-2 c =
     omega (arith, (ratio-ranges c.args.a c.args.l c.requires.0 c.requires.1).over_most)
 
 pub charge-charge-requires : goal.charge-charge-requires
 charge-charge-requires c =
-    let t : Terms = under c.args.h c.args.rates.now in (
-      rw c.factor-m.ensures
-          (inputs-chargeable t c.args.a c.args.l (rates-chargeable t c.requires.3 _) c.requires.0 c.requires.1),
-      c.requires.2,
-    )
+    let t : Terms = under c.args.h c.args.rates.now in
+    rw c.factor.ensures (inputs-chargeable t c.args.a c.args.l (rates-chargeable t c.requires.2 _) c.requires.0 c.requires.1)
 
 pub returns : goal.returns
 unfolding share_with numbers_with kind_counts
@@ -29,10 +26,7 @@ returns c =
     rw (
       c.unscored.ensures,
       c.fresh.ensures,
-      c.no_money.ensures,
-      c.no_money-2.ensures,
-      c.no_amount.ensures,
-      c.no_amount-2.ensures,
+      c.none.ensures,
       c.charge-charge.ensures,
-      c.factor-m.ensures,
+      c.factor.ensures,
     ) refl

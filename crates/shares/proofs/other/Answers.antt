@@ -5,4 +5,4 @@ use Rattle.shares.proofs.other.Goals as goal
 pub returns : goal.returns
 unfolding kind_counts
 returns c =
-    rw (c.no_amount.ensures, c.no_amount-2.ensures) refl
+    rw c.none-none.ensures refl

@@ -1,29 +1,25 @@
-use mathlib.Core.Path.{◌≡◌, refl}
-use native.Mathlib.Numerals.{add-one}
+use mathlib.Core.Path.{refl, ◌∙◌}
+use Rattle.std.proofs.Common.{rules}
+use Rattle.std.proofs.lemmas.Iterator.{YieldsList-from_range}
+use Rattle.std.proofs.lemmas.Iterator.Search.{all_from_yields_List}
+use borrow.Author.Tests.{eq-eqb, ne_eqb}
 use native.Mathlib.Omega.{arith}
 use lib.ListN.{length}
-use borrow.Author.Tests.{eq-eqb, ne_eqb}
-use Rattle.sheet.specs.Sheet.{places_pass, sheet_passes}
+use Rattle.sheet.specs.Sheet.{place_passes_lem, sheet_passes}
+use Rattle.sheet.proofs.Rules.{places}
 use Rattle.sheet.proofs.passes.Goals as goal
 
-pub returns-then-sheet-ne-RATES : goal.returns-then-sheet-ne-RATES
+-- `passes` meets its contract: the chain tests the numbers below 66 in turn. Assumes nothing.
+
+pub returns-then-sheet-eq-RATES : goal.returns-then-sheet-eq-RATES
 unfolding sheet_passes
-returns-then-sheet-ne-RATES c =
-    rw (ne_eqb (length c.args.sheet.now) 66 (λ e. omega (arith, e, c.if-sheet-ne-RATES.true))) refl
+returns-then-sheet-eq-RATES c =
+    let s = c.args.sheet.now in
+    rw (eq-eqb (length s) 66 (omega (arith, c.if-sheet-eq-RATES.true)))
+    (all_from_yields_List (place_passes_lem s) _ _ _ c.all.ensures.ran (YieldsList-from_range 0 66 66 refl refl) (λ x b q k. search rules) ∙ places s 66)
 
-pub loop-k-init : goal.loop-k-init
-unfolding places_pass
-loop-k-init c =
-    (omega arith, refl)
-
-pub loop-k-preserved : goal.loop-k-preserved
-unfolding places_pass
-loop-k-preserved c =
-    (omega arith, rw (add-one, c.place_passes-ok.ensures, c.loop-k.invariant.1) refl)
-
-pub returns : goal.returns
+pub returns-else-sheet-eq-RATES : goal.returns-else-sheet-eq-RATES
 unfolding sheet_passes
-returns c =
-    let size : length c.args.sheet.now ≡ 66 = omega (arith, c.if-sheet-ne-RATES.false) in
-    let e : c.loop-k.k ≡ 66 = omega arith in
-    rw (eq-eqb (length c.args.sheet.now) 66 size, c.loop-k.invariant.1, e) refl
+returns-else-sheet-eq-RATES c =
+    let s = c.args.sheet.now in
+    rw (ne_eqb (length s) 66 c.if-sheet-eq-RATES.false) refl

@@ -1,5 +1,5 @@
 use mathlib.Core.List.{map}
-use mathlib.Core.Path.{◌≡◌, refl, sym, ◌∙◌, ap}
+use mathlib.Core.Path.{◌≡◌, sym, ◌∙◌, ap}
 use native.Mathlib.Numerals.{add-one}
 use native.Mathlib.Omega.{arith}
 use lib.ListN.{length, length-set}
@@ -8,26 +8,21 @@ use Rattle.loan_charge.specs.CreditFactor.{hundredths}
 use Rattle.sheet.proofs.Rules.{rules, filled}
 use Rattle.sheet.proofs.rates_of.Goals as goal
 
-pub loop-k-init : goal.loop-k-init
-loop-k-init c =
-    (omega arith, refl, refl)
-
 pub bounds-sheet-k : goal.bounds-sheet-k
 bounds-sheet-k c =
     omega (arith, (rules c.args.sheet.now c.requires).size)
 
-pub overflow_mul-rates : goal.overflow_mul-rates
-overflow_mul-rates c =
+pub overflow_mul-rate : goal.overflow_mul-rate
+overflow_mul-rate c =
     record { fits = omega (arith, (rules c.args.sheet.now c.requires).most c.loop-k.k (omega arith)) }
 
 pub loop-k-preserved : goal.loop-k-preserved
 loop-k-preserved c =
     let l = c.loop-k in
     let sheet = c.args.sheet.now in (
-      omega arith,
-      length-set l.rates l.k _ ∙ l.invariant.1,
+      length-set l.rate-items l.k _ ∙ l.invariant.0,
       rw (add-one l.k)
-          (filled l.rates sheet l.k (omega (arith, l.invariant.1)) (omega (arith, (rules c.args.sheet.now c.requires).size)) l.invariant.2),
+          (filled l.rate-items sheet l.k (omega (arith, l.invariant.0)) (omega (arith, (rules c.args.sheet.now c.requires).size)) l.invariant.1),
     )
 
 pub returns : goal.returns
@@ -36,4 +31,4 @@ returns c =
     let sheet = c.args.sheet.now in
     let e : l.k ≡ 66 = omega arith in
     let n : length c.args.sheet.now ≡ 66 = (rules c.args.sheet.now c.requires).size in
-    sym (take_all l.k l.rates (omega (arith, l.invariant.1))) ∙ l.invariant.2 ∙ ap (map hundredths) (take_all l.k sheet (omega arith))
+    sym (take_all l.k l.rate-items (omega (arith, l.invariant.0))) ∙ l.invariant.1 ∙ ap (map hundredths) (take_all l.k sheet (omega arith))

@@ -1,27 +1,19 @@
-use mathlib.Core.Path.{◌≡◌, sym, ◌∙◌}
-use Prim.Native.Nat.{◌+◌, ◌-◌}
-use native.Mathlib.Omega.{arith}
-use lib.ListN.{length, drop, length-drop}
-use Rattle.line_bytes.specs.LineBytes.{index_of}
-use Rattle.line_bytes.specs.LineBytes.{newline}
-use Rattle.line_bytes.proofs.FirstNewline.{index-inside}
+use Rattle.std.proofs.Common.{◌≡◌, ◌+◌, ◌-◌, length, take, drop, arith, ap, sym}
+use lib.ListN.{length-drop}
+use lib.Seq.{take_all}
+use Rattle.line_bytes.proofs.FirstNewline.{index-first, index-nowhere}
 use Rattle.line_bytes.proofs.newlines.line_end.Goals as goal
 
--- `newlines::line_end` meets its contract.
+pub returns-in-Some-clause-equation : goal.returns-in-Some-clause-equation
+returns-in-Some-clause-equation c =
+    let hay = drop c.args.from c.args.chunk.now in
+    let whole : take (length c.args.chunk.now - c.args.from) hay ≡ hay = take_all _ hay (omega (arith, length-drop c.args.from c.args.chunk.now)) in
+    let k = rw whole at c.in-Some.ensures in
+    ap (λ n. c.args.from + n) (sym (index-first hay c.in-Some.n k.0 k.1))
 
-pub returns : goal.returns
-returns c =
-    let chunk = c.args.chunk.now in
-    let s1 = c.skip_part-p1 in
-    let s2 = c.skip_part-p2 in
-    let s4 = c.skip_part-p4 in
-    let s8 = c.skip_part-p8 in
-    let s16 = c.skip_part-p16 in
-    let b = c.skip_blocks-block in
-    let f : c.find.result ≡ s1.result + index_of newline (drop s1.result chunk) = c.find.ensures.equation in
-    let e = f ∙ sym s1.ensures.equation ∙ sym s2.ensures.equation ∙ sym s4.ensures.equation ∙ sym s8.ensures.equation ∙ sym s16.ensures.equation ∙ sym b.ensures.equation in
-    let n : length (drop s1.result chunk) ≡ length chunk - s1.result = length-drop s1.result chunk in
-    record {
-      equation = e;
-      inside = (omega (arith, e), omega (arith, f, s1.ensures.inside, index-inside (drop s1.result chunk)));
-    }
+pub returns-in-None-clause-equation : goal.returns-in-None-clause-equation
+returns-in-None-clause-equation c =
+    let hay = drop c.args.from c.args.chunk.now in
+    let whole : take (length c.args.chunk.now - c.args.from) hay ≡ hay = take_all _ hay (omega (arith, length-drop c.args.from c.args.chunk.now)) in
+    let k = rw whole at c.in-None.ensures in
+    omega (arith, index-nowhere hay k, length-drop c.args.from c.args.chunk.now)

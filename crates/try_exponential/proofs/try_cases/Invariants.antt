@@ -1,9 +1,0 @@
--- Safe and ends: each turn reads a case, so the measure is what is left of the block.
-use Rattle.std.proofs.Common.{length, ◌-◌, ◌≤◌}
-use Rattle.try_exponential.proofs.try_cases.Given as goal
-
-abbrev pub invariant-loop-at : goal.invariant-loop-at
-invariant-loop-at g l = l.at ≤ length l.s
-
-abbrev pub decreases-loop-at : goal.decreases-loop-at
-decreases-loop-at g l = length l.s - l.at
