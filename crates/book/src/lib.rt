@@ -3,52 +3,33 @@
 
 ghost use Rattle.std.specs.Prelude.{◌≡◌, ◌≤◌, IfOk, eqb, length, set};
 ghost use Rattle.exact.specs.Choice.{pick};
+ghost use Rattle.loan_charge.specs.Tables.{exponentials};
 ghost use Rattle.loan_charge.specs.CreditFactor.{built_in_sheet};
 ghost use Rattle.line_forms.specs.declared.Content.TheVariants.{Loan as loan, Index as index_content};
 ghost use Rattle.line_forms.specs.Claims.{line_content};
 ghost use Rattle.figures.specs.Sums.{Bounded, InLimits, plus, no_sums};
 ghost use Rattle.report.specs.Line.{Written};
 ghost use Rattle.book_model.specs.Accepted.{loan_refusal, other_refusal, index_refusal};
-ghost use Rattle.book_model.specs.Calls.{told, answered, closed_by, basis_in, counts_of, empty_state, opening, book_with, table_with, feeding_line, feeding};
+ghost use Rattle.book_model.specs.Calls.{told, answered, closed_by, basis_in, counts_of, opening, book_with, table_with, feeding_line, feeding};
 ghost use Rattle.book_model.specs.Calls.{SoundBook, Sound};
 ghost use Rattle.book_model.specs.Calls.{report_size, report_of, closing, closed, closing_cells, closed_cells};
 ghost use Rattle.book_model.specs.HouseIndex.{adjustment_of, values_at, index_with};
 ghost use Rattle.book_model.specs.LineKinds.{another, kind_counts};
 ghost use Rattle.book_model.specs.Ranges.{Ranged, LoanRanges, IndexRanges};
 ghost use Rattle.book_model.specs.Share.{loan_share};
-ghost use Rattle.book_model.specs.Terms.{refused_terms};
 
 use book_model::{Book, OpenBook};
 use cell_report::{Cell, Cells};
 use figures::Sums;
 use line_forms::{IndexValue, Line, Loan, Refusal};
 use loan_charge::charge::Exponentials;
+pub use unopened_book::{copy_unmarked, reset, unopened};
 
 // A report buffer has at least so many bytes.
 const REPORT_SIZE: usize = 512;
 
 // A buffer for the table of cells has at least so many.
 const CELLS_SIZE: usize = 8192;
-
-// What stands where an opening is refused, and before any: an all-zero header, under the regulator's table, with no line taken.
-pub fn unopened() -> OpenBook
-    ensures { result ≡ empty_state refused_terms }
-{
-    OpenBook {
-        book: book_model::refused(),
-        rates: sheet::built_in_rates(),
-        cells: [0; cell_report::PLACES],
-        index: [0; house_index::PLACES],
-        marks: marks::none(),
-    }
-}
-
-// A book becomes that.
-pub fn reset(open_book: &mut OpenBook)
-    ensures { open_book.new ≡ empty_state refused_terms }
-{
-    *open_book = unopened();
-}
 
 // A header line and a sheet of factors open a book (02, L3), whatever the one lent was: where the sheet breaks a rule, 10 comes back after
 // the header's own refusals.
@@ -117,7 +98,7 @@ fn add_index(open_book: &mut OpenBook, i: IndexValue) -> Result<(), Refusal>
 }
 
 fn add_loan(open_book: &mut OpenBook, exps: &Exponentials, l: Loan) -> Result<(), Refusal>
-    requires { Sound open_book.old × LoanRanges l }
+    requires { Sound open_book.old × LoanRanges l × (exps.now ≡ exponentials) }
     ensures refusal { told result ≡
         loan_refusal open_book.old.book.header (counts_of open_book.old.book) (adjustment_of (values_at open_book.old.index) l) l.score }
     ensures state { open_book.new ≡ record open_book.old {
@@ -147,7 +128,7 @@ fn add_loan(open_book: &mut OpenBook, exps: &Exponentials, l: Loan) -> Result<()
 
 // A line that was read.
 fn feed_line(open_book: &mut OpenBook, exps: &Exponentials, line: Line) -> Result<(), Refusal>
-    requires { Sound open_book.old × Ranged (line_content line) }
+    requires { Sound open_book.old × Ranged (line_content line) × (exps.now ≡ exponentials) }
     ensures { answered result open_book.new ≡ feeding_line open_book.old line }
 {
     let b = &mut open_book.book;
@@ -165,7 +146,7 @@ fn feed_line(open_book: &mut OpenBook, exps: &Exponentials, line: Line) -> Resul
 
 // A line is fed to a book, with the constant table lent too: for loops, since a constant array would be stored whole at every use.
 pub fn feed_with(open_book: &mut OpenBook, exps: &Exponentials, line: &[u8]) -> Result<(), Refusal>
-    requires { Sound open_book.old }
+    requires { Sound open_book.old × (exps.now ≡ exponentials) }
     ensures equation { answered result open_book.new ≡ feeding open_book.old line.now }
     ensures sound { Sound open_book.new }
 {

@@ -58,6 +58,11 @@ pub next-told : {asked : Bool} {sheet : List ℕ} {s : State} {k : ℕ} {after :
 next-told (Some n) h = h
 next-told None h = h
 
+-- of an equal book
+pub next-for : {asked : Bool} {sheet : List ℕ} {s : State} {k : ℕ} {r : Step} {after other : State} {old new : List ℕ} → other ≡ after →
+    NextRead asked sheet s k r after old new → NextRead asked sheet s k r other old new
+next-for {asked} {sheet} {s} {k} {r} {after} {other} {old} {new} e h = subst (λ (t : State). NextRead asked sheet s k r t old new) (sym e) h
+
 -- by what it printed
 pub next-as : {asked : Bool} {sheet : List ℕ} {s : State} {k : ℕ} {after : State} {old new : List ℕ} (printed : Option ℕ) {other : Option ℕ} →
     NextRead asked sheet s k (step_of (Ok printed)) after old new → printed ≡ other → NextRead asked sheet s k (step_of (Ok other)) after old new

@@ -5,6 +5,7 @@
 
 ghost use Rattle.std.specs.Prelude.{◌≡◌, ◌+◌, ◌-◌, ◌^◌, ◌≤◌, ◌<◌, false, length, is_none, IfSome, IfOk, OnOk};
 ghost use Rattle.std.specs.Result.{result_unwrap_or};
+ghost use Rattle.loan_charge.specs.Tables.{exponentials};
 ghost use Rattle.book_model.specs.Calls.{lacks_lines, Sound};
 ghost use Rattle.book_model.specs.JoiningLaws.{without_marks};
 ghost use Rattle.driver.specs.Reading.{stage_at, reading_of, AtStart, Running};
@@ -51,7 +52,7 @@ fn read_once(
     sheet: &[u64],
     buf: &mut [u8],
 ) -> Result<usize, ReadFailed>
-    requires { Running run.old open_book.old × (run.old.read + length buf.old ≤ 2 ^ 62) }
+    requires { Running run.old open_book.old × (run.old.read + length buf.old ≤ 2 ^ 62) × (exps.now ≡ exponentials) }
     ensures reading { ReadsOn (reading_of run.old sheet.now open_book.old)
         (reading_of run.new sheet.now open_book.new) (result_unwrap_or result 0) buf.new }
     ensures running { Running run.new open_book.new × (run.new.read ≡ run.old.read + result_unwrap_or result 0) }
@@ -73,7 +74,7 @@ fn read_all(
     sheet: &[u64],
     buf: &mut [u8; READ],
 ) -> Result<usize, ReadFailed>
-    requires { AtStart run.old open_book.old × Running run.old open_book.old × (run.old.read ≡ 0) }
+    requires { AtStart run.old open_book.old × Running run.old open_book.old × (run.old.read ≡ 0) × (exps.now ≡ exponentials) }
     ensures reached { Reached sheet.now (reading_of run.new sheet.now open_book.new) run.new.read }
     ensures running { Running run.new open_book.new × (run.new.read ≤ 2 ^ 62) }
     ensures ends { IfOk result (λ n. EndsReading (reading_of run.new sheet.now open_book.new) n false false) }
@@ -91,7 +92,9 @@ fn read_all(
 }
 
 // Reads a book to its end, under a sheet of factors, and leaves in the buffer what is to be printed of it, with the table of cells where it is
-// asked for. The result is how many bytes that is.
+// asked for. The result is how many bytes that is. It is no part of its caller's code, as `answer_files` is none: the stack has room for the
+// books of the one or of the other.
+#[inline(never)]
 fn answer(
     rt: &HostRuntime,
     asked: bool,
@@ -112,7 +115,7 @@ fn answer(
         sheet,
         &mut buf,
     )?;
-    Ok(driver::finish(&mut run, &mut open_book, &exps, sheet, asked, out))
+    Ok(driver::finish(run, &mut open_book, &exps, sheet, asked, out))
 }
 
 // The bytes of this argument, put at the start of the buffer: none where there is no such argument, or one with more bytes.
@@ -193,12 +196,13 @@ fn read_book(
     sheet: &[u64],
     buf: &mut [u8; READ],
 ) -> Result<Progress, ReadFailed>
+    requires { exps.now ≡ exponentials }
     ensures read { IfOk result (λ p. FileRead sheet.now (stage_at p sheet.now open_book.new)) }
     ensures sound { OnOk result (Sound open_book.new) }
 {
     let mut run = driver::start(open_book);
     read_all(input, &mut run, open_book, exps, sheet, buf)?;
-    Ok(driver::end_input(&mut run, open_book, exps, sheet))
+    Ok(driver::end_input(run, open_book, exps, sheet))
 }
 
 // Reads the book of the file that is named by this argument to its end. Of a file that cannot be opened nothing is read.
@@ -210,6 +214,7 @@ fn read_file(
     sheet: &[u64],
     buf: &mut [u8; READ],
 ) -> Result<Progress, ReadFailed>
+    requires { exps.now ≡ exponentials }
     ensures read { IfOk result (λ p. FileRead sheet.now (stage_at p sheet.now open_book.new)) }
     ensures sound { OnOk result (Sound open_book.new) }
 {
@@ -219,10 +224,13 @@ fn read_file(
     read_book(&mut book, open_book, exps, sheet, buf)
 }
 
-// The book of one more file is joined to that of those before it. Where something is to be printed, the result is how many bytes.
+// The book of one more file is joined to that of those before it, by way of two books that are lent so that none is made for each file. Where
+// something is to be printed, the result is how many bytes.
 fn join_next(
     rt: &HostRuntime,
     total: &mut OpenBook,
+    own: &mut OpenBook,
+    joined: &mut OpenBook,
     file: usize,
     number: u64,
     exps: &Exponentials,
@@ -231,15 +239,13 @@ fn join_next(
     asked: bool,
     out: &mut [u8; OUT],
 ) -> Result<Option<usize>, ReadFailed>
-    requires { Sound (without_marks total.old) }
+    requires { Sound (without_marks total.old) × (exps.now ≡ exponentials) }
     ensures { NextRead asked sheet.now (without_marks total.old) number (step_of result)
         (without_marks total.new) out.old out.new }
 {
-    let mut own = book::unopened();
-    let p = read_file(rt, file, &mut own, exps, sheet, buf)?;
-    let mut joined = book::unopened();
-    let printed = regions::join_file(&mut joined, total, p, &own, number, asked, out);
-    *total = joined;
+    let p = read_file(rt, file, own, exps, sheet, buf)?;
+    let printed = regions::join_file(joined, total, p, own, number, asked, out);
+    book::copy_unmarked(total, joined);
     Ok(printed)
 }
 
@@ -256,13 +262,27 @@ fn join_all(
     out: &mut [u8; OUT],
 ) -> Result<usize, ReadFailed>
     requires { Sound (without_marks total.old) × (lacks_lines total.old.book.header total.old.book.sums.counts ≡ false)
-        × (2 ≤ from) × (from ≤ arguments) }
+        × (2 ≤ from) × (from ≤ arguments) × (exps.now ≡ exponentials) }
     ensures { AnsweredOthers asked sheet.now (without_marks total.old)
         (arguments - from) out.old (output_of result) out.new }
 {
+    let mut own = *total;
+    let mut joined = *total;
     for file in from..arguments {
         let number = (file - from + 2) as u64;
-        if let Some(count) = join_next(rt, total, file, number, exps, sheet, buf, asked, out)? {
+        if let Some(count) = join_next(
+            rt,
+            total,
+            &mut own,
+            &mut joined,
+            file,
+            number,
+            exps,
+            sheet,
+            buf,
+            asked,
+            out,
+        )? {
             return Ok(count);
         }
     }
@@ -270,6 +290,7 @@ fn join_all(
 }
 
 // Reads the books of the files from this argument on, joins them from the first on, and leaves in the buffer what is to be printed of them.
+#[inline(never)]
 fn answer_files(
     rt: &HostRuntime,
     from: usize,

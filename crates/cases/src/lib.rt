@@ -27,14 +27,16 @@ impl<'a> Cases<'a> {
         ensures passed { self.new.rest.now ≡ after_number self.old.rest.now }
         ensures shorter { length self.new.rest.now ≤ length self.old.rest.now - 1 }
     {
+        let mut rest = self.rest;
         let mut value = 0u64;
-        while let Some((b, rest)) = self.rest.split_first() {
-            self.rest = rest;
+        while let Some((b, more)) = rest.split_first() {
+            rest = more;
             if !b.is_ascii_digit() {
                 break;
             }
             value = value.saturating_mul(10).saturating_add((*b - b'0') as u64);
         }
+        self.rest = rest;
         value
     }
 

@@ -4,13 +4,20 @@
 ghost use Rattle.std.specs.Prelude.{◌≡◌, ◌+◌, ◌*◌, ◌≤◌, ◌<◌, ◌^◌, ltb, get_or};
 ghost use Rattle.exact.specs.Choice.{pick};
 ghost use Rattle.cell_report.specs.CellReport.{place_of};
-ghost use Rattle.book_model.specs.Cells.{band_of, ltv_of, loan_band, ltv_with, add_at_lem, with_cell, CellsBounded};
+ghost use Rattle.book_model.specs.Cells.{band_of, ltv_of, loan_band, ltv_with, add_at_lem, with_cell, empty_cells, CellsBounded};
 ghost use Rattle.book_model.specs.Ranges.{LoanRanges, AdjustmentRanges, CellRanges};
 
 use book_model::Adjustment;
 use cell_report::{Cell, Cells};
 use line_forms::Loan;
 use loan_charge::Score;
+
+// No loan in any cell.
+pub fn clear(cells: &mut Cells)
+    ensures { cells.new ≡ empty_cells }
+{
+    *cells = [0; cell_report::PLACES];
+}
 
 // The band of a score, counted from 0.
 fn score_band(score: Score) -> usize

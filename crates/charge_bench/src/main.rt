@@ -2,7 +2,8 @@
 // of the sum of their totals and of their supplements, as in a case of `try_loan_charge`. Printed is whether the sums lie in them.
 #![tactic(auto)]
 
-ghost use Rattle.std.specs.Prelude.{◌<◌};
+ghost use Rattle.std.specs.Prelude.{◌≡◌, ◌<◌};
+ghost use Rattle.loan_charge.specs.Tables.{exponentials};
 
 use cases::Cases;
 use fixed_point::Signed;
@@ -19,7 +20,7 @@ fn next(x: u64) -> u64
 
 // The charge of the loan of x: a value of 1 to 3.5 balances, either set of coefficients, m from 0.40 to 3.00.
 fn charge_of(x: u64, table: &Exponentials) -> LoanCharge
-    requires { x < 2147483647 }
+    requires { (x < 2147483647) × (table.now ≡ exponentials) }
 {
     let balance = 100000000 + x % 100000000;
     let l = LoanInputs {
@@ -42,7 +43,9 @@ fn add(x: Signed, y: Signed) -> Signed {
 }
 
 // The sums of the numbers of `count` loans.
-fn charge_all(count: u64, table: &Exponentials) -> LoanCharge {
+fn charge_all(count: u64, table: &Exponentials) -> LoanCharge
+    requires { table.now ≡ exponentials }
+{
     let mut total = Signed { plus: 0, minus: 0 };
     let mut supplement = total;
     let mut x = 1;

@@ -181,3 +181,19 @@ impl Remaining {
         if self.first { up_to(120, n, 3, 0) } else { 3 }
     }
 }
+
+// The curve A, from the set and the months by themselves.
+pub fn curve_a(first: bool, n: u64) -> ScaledCurve
+    requires { Months n }
+    ensures { result ≡ scaled_a first n }
+{
+    Remaining { first, months: n }.curve_a()
+}
+
+// The curve B likewise.
+pub fn curve_b(first: bool, n: u64) -> ScaledCurve
+    requires { Months n }
+    ensures { result ≡ scaled_b first n }
+{
+    Remaining { first, months: n }.curve_b()
+}

@@ -3,6 +3,7 @@
 
 ghost use Rattle.std.specs.Prelude.{◌≡◌, true, [], ◌+◌, ◌^◌, ◌≤◌, ◌<◌, eqb, length, take, drop};
 ghost use Rattle.exact.specs.Choice.{pick};
+ghost use Rattle.loan_charge.specs.Tables.{exponentials};
 ghost use Rattle.report.specs.Line.{Written};
 ghost use Rattle.book_model.specs.Calls.{answered, opening, feeding, report_size, cells_size, Sound};
 ghost use Rattle.line_bytes.specs.LineBytes.{unbroken};
@@ -22,7 +23,7 @@ pub struct Progress {
 }
 
 // A run between two parts of the input: `tail` holds the bytes of a line not yet ended, and `read` counts all bytes read so far.
-#[derive(Drop)]
+#[derive(Clone, Copy)]
 pub struct Run {
     pub progress: Progress,
     pub tail: Tail,
@@ -54,7 +55,7 @@ fn answer_to(
     sheet: &[u64],
     line: &[u8],
 ) -> Result<(), Refusal>
-    requires { Sound open_book.old }
+    requires { Sound open_book.old × (exps.now ≡ exponentials) }
     ensures { answered result open_book.new ≡ pick (eqb number 1) (opening sheet.now line.now) (feeding open_book.old line.now) }
 {
     if number == 1 {
@@ -72,7 +73,7 @@ fn end_line(
     sheet: &[u64],
     line: &[u8],
 )
-    requires { Sound open_book.old × (p.old.number < 2 ^ 63) }
+    requires { Sound open_book.old × (p.old.number < 2 ^ 63) × (exps.now ≡ exponentials) }
     ensures equation { stage_at p.new sheet.now open_book.new ≡ with_line (stage_at p.old sheet.now open_book.old) line.now }
     ensures sound { Sound open_book.new }
     ensures number { p.new.number ≤ p.old.number + 1 }
@@ -95,7 +96,7 @@ fn lines(
     sheet: &[u64],
     bytes: &[u8],
 ) -> usize
-    requires { Sound open_book.old × (p.old.number + length bytes.now < 2 ^ 63) }
+    requires { Sound open_book.old × (p.old.number + length bytes.now < 2 ^ 63) × (exps.now ≡ exponentials) }
     ensures equation { record {
       stage = stage_at p.new sheet.now open_book.new;
       tail =
@@ -125,7 +126,7 @@ fn lines(
 
 // The line that is held is ended, and read.
 fn end_held(run: &mut Run, open_book: &mut OpenBook, exps: &Exponentials, sheet: &[u64])
-    requires { Running run.old open_book.old × (run.old.progress.number + 242 < 2 ^ 63) }
+    requires { Running run.old open_book.old × (run.old.progress.number + 242 < 2 ^ 63) × (exps.now ≡ exponentials) }
     ensures equation { stage_at run.new.progress sheet.now open_book.new ≡
         with_line (stage_at run.old.progress sheet.now open_book.old)
         run.old.tail }
@@ -146,7 +147,7 @@ fn read_lines(
     bytes: &[u8],
 )
     requires { Sound open_book.old × (run.old.progress.number + length bytes.now ≤ 1 + run.old.read) × (run.old.read ≤ 2 ^ 62)
-        × (run.old.tail ≡ []) }
+        × (run.old.tail ≡ []) × (exps.now ≡ exponentials) }
     ensures equation { reading_of run.new sheet.now open_book.new ≡
         with_bytes (record {
           stage = stage_at run.old.progress sheet.now open_book.old;
@@ -169,7 +170,7 @@ pub fn step(
     sheet: &[u64],
     chunk: &[u8],
 )
-    requires { Running run.old open_book.old × (run.old.read + length chunk.now ≤ 2 ^ 62) }
+    requires { Running run.old open_book.old × (run.old.read + length chunk.now ≤ 2 ^ 62) × (exps.now ≡ exponentials) }
     ensures equation { reading_of run.new sheet.now open_book.new ≡
         with_bytes (reading_of run.old sheet.now open_book.old)
         chunk.now }
@@ -190,40 +191,31 @@ pub fn step(
 }
 
 // The end of the input: a line that is held is ended, and read.
-pub fn end_input(
-    run: &mut Run,
-    open_book: &mut OpenBook,
-    exps: &Exponentials,
-    sheet: &[u64],
-) -> Progress
-    requires { Running run.old open_book.old × (run.old.read ≤ 2 ^ 62) }
-    ensures equation { stage_at result sheet.now open_book.new ≡
-        ended (reading_of run.old sheet.now open_book.old) }
+pub fn end_input(run: Run, open_book: &mut OpenBook, exps: &Exponentials, sheet: &[u64]) -> Progress
+    requires { Running run open_book.old × (run.read ≤ 2 ^ 62) × (exps.now ≡ exponentials) }
+    ensures equation { stage_at result sheet.now open_book.new ≡ ended (reading_of run sheet.now open_book.old) }
     ensures sound { Sound open_book.new }
 {
     if run.tail.is_empty() {
         return run.progress;
     }
-    end_held(run, open_book, exps, sheet);
-    run.progress
+    let mut last = run;
+    end_held(&mut last, open_book, exps, sheet);
+    last.progress
 }
 
 // The end of the input: what is to be printed is written to the lent buffer, with the table of cells where it is asked for.
 pub fn finish(
-    run: &mut Run,
+    run: Run,
     open_book: &mut OpenBook,
     exps: &Exponentials,
     sheet: &[u64],
     asked: bool,
     out: &mut [u8],
 ) -> usize
-    requires { Running run.old open_book.old × (run.old.read ≤ 2 ^ 62) × (report_size + cells_size ≤ length out.old) }
-    ensures equation { Written out.old (printed_for asked
-        (ended (reading_of run.old sheet.now open_book.old))) result
-        out.new }
-    ensures whole { PrintsWhole asked (reading_of run.old sheet.now open_book.old)
-        out.old result
-        out.new }
+    requires { Running run open_book.old × (run.read ≤ 2 ^ 62) × (exps.now ≡ exponentials) × (report_size + cells_size ≤ length out.old) }
+    ensures equation { Written out.old (printed_for asked (ended (reading_of run sheet.now open_book.old))) result out.new }
+    ensures whole { PrintsWhole asked (reading_of run sheet.now open_book.old) out.old result out.new }
 {
     let last = end_input(run, open_book, exps, sheet);
     printing::put_answer(last.answer, last.number, open_book, asked, out)

@@ -10,20 +10,15 @@ mod values;
 // How many entries the table has: exp(-k/64) for k from 0 to 1536.
 pub const ENTRIES: usize = 1537;
 
-// The table, whose entries are those of the rule.
-#[derive(Drop)]
-pub struct Exponentials {
-    pub entries: [u64; ENTRIES],
-    pub ghost listed: { entries ≡ exponentials },
-}
+// Kept: an array that is asked to be the table, and no type that says so: `exp_upper`, and above it `charge` and `feed_with`, which README names,
+// are lent any array that is.
+pub type Exponentials = [u64; ENTRIES];
 
-// It is made once and lent from then on: a constant array is stored whole at each use.
+// The table. It is made once and lent from then on: a constant array is stored whole at each use.
 pub fn table() -> Exponentials
-    ensures { result.entries ≡ exponentials }
+    ensures { result ≡ exponentials }
 {
-    Exponentials {
-        entries: values::TABLE,
-    }
+    values::TABLE
 }
 
 // 24 in units of 2^-38: the exponent of the last entry.
@@ -65,10 +60,11 @@ fn lower(t: u64, d: u64) -> u64
 
 // At or above exp(-y), in units of 2^-40; y in units of 2^-38.
 pub fn exp_upper(y: u64, table: &Exponentials) -> u64
+    requires { table.now ≡ exponentials }
     ensures { result ≡ exp_upper_lem y }
 {
     let x = y.min(LAST);
     let k = (x / 4294967296) as usize;
     let remainder = (x % 4294967296) as u32;
-    lower(table.entries[k], decrease_of(remainder))
+    lower(table[k], decrease_of(remainder))
 }

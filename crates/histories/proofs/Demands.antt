@@ -297,7 +297,7 @@ calls-asked = record {
   opening_sheet = λ lifetimes args. tt;
   closing_cells_law = λ lifetimes args. tt;
   feeding = λ g lifetimes args e. subst Sound (sym e) (sound g);
-  feeding_with = λ g lifetimes args e. subst Sound (sym e) (sound g);
+  feeding_with = λ g lifetimes args e f. (subst Sound (sym e) (sound g), f);
   joining = λ g f lifetimes args d e. (without-marks-sound (subst Sound (sym d) (sound g)), without-marks-sound (subst Sound (sym e) (sound f)));
   closing = λ g lifetimes args e. subst SoundBook (sym e) (sound g).book;
 }

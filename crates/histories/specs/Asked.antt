@@ -3,6 +3,7 @@
 use Rattle.std.specs.Prelude.{◌≡◌}
 use contract.Lifetimes.{Lfts}
 use borrow.Fn.Kinds.{Dens}
+use Rattle.loan_charge.specs.Tables.{exponentials}
 use Rattle.book_model.specs.Calls.{State, state_at}
 use Rattle.book_model.specs.History.{History}
 use Rattle.book.proofs.open.Reads as open-reads
@@ -30,7 +31,7 @@ pub record CallsAsked : Type 0 where
   pub feeding : {h : History} {s : State} → Given h s → (lifetimes : Lfts 2) (args : Dens lifetimes feed-kinds.ps) → args.0.now ≡ s →
       feed-reads.Asked lifetimes args
   pub feeding_with : {h : History} {s : State} → Given h s → (lifetimes : Lfts 3) (args : Dens lifetimes with-kinds.ps) → args.0.now ≡ s →
-      with-reads.Asked lifetimes args
+      args.1.0.now ≡ exponentials → with-reads.Asked lifetimes args
   -- A joining is lent books in two such states, whatever marks they have.
   pub joining : {h k : History} {s u : State} → Given h s → Given k u → (lifetimes : Lfts 3) (args : Dens lifetimes join-kinds.ps) →
       state_at args.1.0.now.book args.1.0.now.rates args.1.0.now.cells args.1.0.now.index s.marks ≡ s →

@@ -2,7 +2,7 @@
 #![tactic(auto)]
 
 ghost use Rattle.std.specs.Prelude.{◌≡◌, ◌<◌, set};
-ghost use Rattle.book_model.specs.HouseIndex.{InTable, is_indexed_lem, adjustment_of, lacking, place_for, values_at};
+ghost use Rattle.book_model.specs.HouseIndex.{InTable, is_indexed_lem, adjustment_of, lacking, place_for, values_at, empty_index};
 ghost use Rattle.book_model.specs.Ranges.{LoanRanges, IndexRanges};
 
 use book_model::Adjustment;
@@ -13,6 +13,13 @@ pub const PLACES: usize = 1584;
 
 // Kept: numbers with 0 for none, and no Option, since the definitions values_at and empty_index and the rows of marks speak of them.
 pub type Index = book_model::Index;
+
+// No value is set.
+pub fn clear(index: &mut Index)
+    ensures { index.new ≡ empty_index }
+{
+    *index = [0; PLACES];
+}
 
 // Where the value of an area and month stands.
 fn place_of(area: u64, month: u64) -> usize

@@ -91,10 +91,11 @@ pub fn join(joined: &mut OpenBook, first: &OpenBook, second: &OpenBook) -> Resul
     ensures equation { answered result joined.new ≡ joining (without_marks first.now) (without_marks second.now) }
     ensures sound { Sound joined.new }
 {
-    book::reset(joined);
     if !may_join(first, second) {
+        unopened_book::reset(joined);
         return Err(Refusal::NotJoinable);
     }
+    marks::clear(&mut joined.marks);
     joined.book = joined_book(&first.book, &second.book);
     joined.rates = first.rates;
     joined.cells = added_cells(&first.cells, &second.cells);

@@ -1,17 +1,18 @@
 -- What is held of a line not yet ended. Assumes nothing.
 use mathlib.Core.Path.{◌≡◌, refl, sym, ◌∙◌, ap}
 use mathlib.Core.Bool.{Bool, true, false, ◌&&◌}
-use mathlib.Core.List.{List, [], ◌++◌, append_assoc, append-nil}
-use Prim.Native.Nat.{ℕ, ◌+◌, ◌-◌, ◌≤◌, min}
+use mathlib.Core.List.{List, [], ◌∷◌, ◌++◌, append_assoc, append-nil}
+use Prim.Native.Nat.{ℕ, suc, ◌+◌, ◌-◌, ◌≤◌, min}
 use borrow.Rule.Slice.PartMut.{put_mid}
 use Rattle.std.proofs.lemmas.Slice.{take-put_mid}
 use Rattle.std.proofs.Math.Seq.{take-append-add}
 use native.Mathlib.Omega.{arith}
 use lib.Dec.{ltb}
-use lib.ListN.{length, take, drop, take-append-drop}
+use lib.ListN.{length, take, drop, replicate, take-append-drop}
 use lib.Seq.{take_all, take-append-le, length-take-le, take-take}
 use borrow.Author.Tests.{ltb-true, ltb-false}
-use Rattle.line_bytes.specs.LineBytes.{unbroken, with_tail}
+use Rattle.std.proofs.lemmas.List.{length-drop, length-replicate, drop-drop, drop-replicate}
+use Rattle.line_bytes.specs.LineBytes.{newline, unbroken, with_tail}
 use Rattle.line_bytes.proofs.FirstNewline.{unbroken-append}
 
 -- The first bytes of a line, of which the first were taken before.
@@ -65,3 +66,28 @@ unbroken-front n s e = go (unbroken (take n s)) (sym (unbroken-append (take n s)
 
 pub unbroken-tail : (a b : List ℕ) → unbroken a ≡ true → unbroken b ≡ true → unbroken (with_tail a b) ≡ true
 unbroken-tail a b e f = unbroken-front 241 (a ++ b) (unbroken-append a b ∙ rw (e, f) refl)
+
+-- A buffer of which newlines fill the rest has room for all,
+rest-room : (tail : List ℕ) (held : ℕ) → held ≤ 241 → drop held tail ≡ replicate (242 - held) newline → length tail ≡ 242
+rest-room tail held h e =
+    let rest : length tail - held ≡ 242 - held = sym (length-drop held tail) ∙ ap length e ∙ length-replicate (242 - held) newline in
+    omega (arith, rest)
+
+-- and has a newline after it.
+pub ended-by-rest : (tail : List ℕ) (held : ℕ) → held ≤ 241 → drop held tail ≡ replicate (242 - held) newline →
+    take (held + 1) tail ≡ take held tail ++ newline ∷ []
+ended-by-rest tail held h e =
+    let size : length (take held tail) ≡ held = length-take-le held tail (omega (arith, rest-room tail held h e)) in
+    let rest : 242 - held ≡ suc (241 - held) = omega arith in
+    ap (take (held + 1)) (sym (take-append-drop held tail))
+    ∙ rw (e, rest) (ap (λ (n : ℕ). take (n + 1) (take held tail ++ replicate (suc (241 - held)) newline)) (sym size)
+    ∙ take-append-add (take held tail) (replicate (suc (241 - held)) newline) 1)
+
+-- More bytes are put before that rest.
+pub rest-later : (old new : List ℕ) (held later : ℕ) → held ≤ later → drop held old ≡ replicate (242 - held) newline → drop later new ≡ drop later old →
+    drop later new ≡ replicate (242 - later) newline
+rest-later old new held later h e same =
+    let more : held + (later - held) ≡ later = omega arith in
+    let left : 242 - held - (later - held) ≡ 242 - later = omega arith in
+    same ∙ ap (λ (n : ℕ). drop n old) (sym more) ∙ sym (drop-drop (later - held) held old) ∙ ap (drop (later - held)) e
+    ∙ drop-replicate (later - held) (242 - held) newline ∙ ap (λ (n : ℕ). replicate n newline) left

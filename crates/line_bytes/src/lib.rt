@@ -3,7 +3,7 @@
 
 pub mod newlines;
 
-ghost use Rattle.std.specs.Prelude.{◌≡◌, ℕ, ◌+◌, ◌≤◌, ◌==◌, List, [], ◌∷◌, ◌++◌, length, take, drop};
+ghost use Rattle.std.specs.Prelude.{◌≡◌, ℕ, ◌-◌, ◌≤◌, ◌==◌, List, [], ◌∷◌, ◌++◌, length, take, drop, replicate};
 ghost use Rattle.line_bytes.specs.LineBytes.{newline, most_held, with_tail};
 
 use std::marker::Model;
@@ -18,7 +18,7 @@ pub const TAIL: usize = 242;
 pub fn hold(tail: &mut [u8], held: usize, bytes: &[u8]) -> usize
     requires { (held ≤ most_held) × (length tail.old ≡ 242) }
     ensures equation { take result tail.new ≡ with_tail (take held tail.old) bytes.now }
-    ensures few { result ≤ most_held }
+    ensures few { (held ≤ result) × (result ≤ most_held) }
     ensures rest { drop result tail.new ≡ drop result tail.old }
 {
     let n = bytes.len().min(MOST_HELD - held);
@@ -26,8 +26,8 @@ pub fn hold(tail: &mut [u8], held: usize, bytes: &[u8]) -> usize
     held + n
 }
 
-// What is held of a line not yet ended. In the buffer a newline stands after it.
-#[derive(Drop)]
+// What is held of a line not yet ended. In the buffer newlines stand after it, so that the bytes that are held tell all of it.
+#[derive(Clone, Copy)]
 pub struct Tail {
     bytes: [u8; TAIL],
     held: usize,
@@ -35,11 +35,27 @@ pub struct Tail {
 
 // Clauses see the bytes that are held.
 impl Model for Tail {
+    ghost use Rattle.std.specs.Prelude.{◌≡◌, ℕ, ◌-◌, ◌≤◌, List, ◌++◌, length, take, drop, replicate};
+    ghost use Rattle.line_bytes.specs.LineBytes.{newline, most_held};
+    ghost use Rattle.std.proofs.Common.{arith, ap, sym, ◌∙◌, take-append-drop, length-take-le};
+    ghost use Rattle.std.proofs.lemmas.List.{length-drop, length-replicate};
+
     ghost Value = { List ℕ };
 
     ghost view = { λ t. take t.held t.bytes };
 
-    ghost invariant = { λ t. (t.held ≤ most_held) × (take (t.held + 1) t.bytes ≡ take t.held t.bytes ++ newline ∷ []) };
+    ghost inverse = { λ line. record { bytes = line ++ replicate (242 - length line) newline; held = length line } };
+
+    ghost invariant = { λ t. (t.held ≤ most_held) × (drop t.held t.bytes ≡ replicate (242 - t.held) newline) };
+
+    ghost inverse_ok = { λ t h i.
+        let room : length t.bytes - t.held ≡ 242 - t.held = sym (length-drop t.held t.bytes) ∙ ap length h.1 ∙ length-replicate (242 - t.held) newline in
+        let size : length (take t.held t.bytes) ≡ t.held = length-take-le t.held t.bytes (omega (arith, h.0, room)) in
+        record {
+          bytes = (ap (λ (n : ℕ). take t.held t.bytes ++ replicate (242 - n) newline) size
+              ∙ ap (λ (rest : List ℕ). take t.held t.bytes ++ rest) (sym h.1) ∙ take-append-drop t.held t.bytes) i;
+          held = size i;
+        } };
 }
 
 impl Tail {
@@ -70,7 +86,7 @@ impl Tail {
     pub fn clear(&mut self)
         ensures { self.new ≡ [] }
     {
-        self.bytes[0] = b'\n';
+        self.bytes = [b'\n'; TAIL];
         self.held = 0;
     }
 
@@ -79,7 +95,6 @@ impl Tail {
         ensures { self.new ≡ with_tail self.old bytes.now }
     {
         self.held = hold(&mut self.bytes, self.held, bytes);
-        self.bytes[self.held] = b'\n';
     }
 
     // The line, ended by a newline.

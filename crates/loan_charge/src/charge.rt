@@ -13,7 +13,7 @@ use coefficients::{Remaining, ScaledCurve, first_set};
 use fixed_point::{Division, Signed, division_step, scaled_product};
 
 // The exponential's table, under a name for the layers above.
-pub use exponential::Exponentials;
+pub type Exponentials = exponential::Exponentials;
 
 // A loan's base plus supplement, and its supplement, in cents.
 #[derive(Clone, Copy)]
@@ -210,6 +210,7 @@ impl Bell {
 // exp(-y) of both, never below it.
 #[tactic(auto, unfolding(crate::specs::Computation::heights_at_lem))]
 fn heights_at(y: Exponents, exps: &Exponentials) -> Heights
+    requires { exps.now ≡ exponentials }
     ensures { result ≡ heights_at_lem y }
 {
     Heights {
@@ -254,6 +255,7 @@ impl Curve {
 
     // The curve at its exponents.
     fn units(self, y: Exponents, exps: &Exponentials) -> Signed
+        requires { exps.now ≡ exponentials }
         ensures { result ≡ weighted self.scaled (heights_at_lem y) }
     {
         self.weigh(heights_at(y, exps))
@@ -367,6 +369,7 @@ impl Charged {
     // Both curves in one sum. All exponents are made before any exponential, so that their divisions stand together: a processor works on several at
     // once, but looks ahead only so far.
     fn curves_at(self, exps: &Exponentials) -> Signed
+        requires { exps.now ≡ exponentials }
         ensures { result ≡ curves_sum_lem self.loan.balance (a_units self.loan) (b_units self.loan) }
     {
         let remaining = self.remaining();
@@ -389,6 +392,7 @@ impl Charged {
     // The base. m, a division too, is made before the exponentials for the same reason.
     #[tactic(auto, unfolding(crate::specs::Computation::base_units_lem))]
     fn base_units(self, exps: &Exponentials) -> Signed
+        requires { exps.now ≡ exponentials }
         ensures { result ≡ base_units_lem self.loan }
     {
         let m = factor_of(self.loan.factor);
@@ -399,6 +403,7 @@ impl Charged {
     // r of the supplement.
     #[tactic(auto, unfolding(crate::specs::Computation::rate_units_lem))]
     fn rate_units(self, exps: &Exponentials) -> u64
+        requires { exps.now ≡ exponentials }
         ensures { result ≡ rate_units_lem self.loan }
     {
         let remaining = self.remaining();
@@ -432,7 +437,7 @@ fn without_supplement(base: Signed) -> LoanCharge
 
 // The exponential's table, to be made once and lent to `charge`.
 pub fn table() -> Exponentials
-    ensures { result.entries ≡ exponentials }
+    ensures { result ≡ exponentials }
 {
     exponential::table()
 }
@@ -440,7 +445,7 @@ pub fn table() -> Exponentials
 // A loan's two numbers.
 #[tactic(auto, unfolding(crate::specs::Computation::charge_of, crate::specs::Computation::charge_from))]
 pub fn charge(l: LoanInputs, exps: &Exponentials) -> LoanCharge
-    requires { Chargeable l }
+    requires { Chargeable l × (exps.now ≡ exponentials) }
     ensures { result ≡ charge_of l }
 {
     let fraction = Fraction {

@@ -4,6 +4,7 @@
 ghost use Rattle.std.specs.Prelude.{◌≡◌, [], ◌++◌, ◌+◌, ◌-◌, ◌<◌, ◌≤◌, ◌==◌, IfSome, unwrap_or, position, slice_index, length, get_or, take, drop, set, replicate, true, false, eqb};
 ghost use Rattle.exact.specs.Choice.{pick};
 ghost use Rattle.book_model.specs.Calls.{told, marked, place_named, back_at, state_marked};
+ghost use Rattle.book_model.specs.Steps.{part_marked};
 ghost use Rattle.book_model.specs.Marks.{numbers_of, row_of, book_in_lem, cells_in, index_in, empty_row, no_marks, names_in, place_among, mark_refusal, kept_in};
 
 use book_model::{Book, OpenBook};
@@ -233,6 +234,7 @@ fn back_to(open_book: &mut OpenBook, name: u64) -> Result<(), Refusal>
 pub fn feed(open_book: &mut OpenBook, m: MarkLine) -> Result<(), Refusal>
     ensures refusal { told result ≡ mark_refusal (kept_in open_book.old.marks) m }
     ensures state { open_book.new ≡ state_marked (told result) open_book.old m }
+    ensures parts { open_book.new ≡ part_marked (told result) m (back_at open_book.old (place_named open_book.old m.name)) (marked open_book.old m.name) open_book.old }
 {
     if m.back {
         back_to(open_book, m.name)

@@ -1,5 +1,5 @@
 -- A printed line, and text written into a buffer.
-use Rattle.std.specs.Prelude.{ℕ, suc, ◌≡◌, List, [], ◌∷◌, ◌++◌, eqb, length, drop}
+use Rattle.std.specs.Prelude.{ℕ, suc, ◌+◌, ◌≡◌, List, [], ◌∷◌, ◌++◌, eqb, length, take, drop}
 use Rattle.exact.specs.Choice.{pick}
 use Rattle.exact.specs.Text.{text}
 use Rattle.report.specs.Decimal.{digits}
@@ -30,3 +30,8 @@ onto old t = t ++ drop (length t) old
 pub record Written (old t : List ℕ) (told : ℕ) (new : List ℕ) : Type 0 where
   pub count : told ≡ length t
   pub bytes : new ≡ onto old t
+
+-- the same of a writer that goes on after the first `at` bytes, which stay, and tells how many bytes there are then
+pub record Added (old : List ℕ) (at : ℕ) (t : List ℕ) (told : ℕ) (new : List ℕ) : Type 0 where
+  pub count : told ≡ at + length t
+  pub bytes : new ≡ take at old ++ onto (drop at old) t

@@ -1,5 +1,5 @@
 // Lines of decimal numbers, written into a buffer that the caller lends. A function `put_..` writes from the buffer's start, tells how many bytes it
-// wrote, and leaves the bytes after them; what comes next is written to what remains of the buffer.
+// wrote, and leaves the bytes after them; an `add_..` goes on after the first `at` bytes, and lends what remains of the buffer to the other.
 #![tactic(auto)]
 
 ghost use Rattle.std.specs.Prelude.{[], ◌∷◌, ◌++◌, ◌+◌, ◌≤◌, length, map, sum_by};
@@ -7,7 +7,7 @@ ghost use Rattle.std.specs.List.{flat_map};
 ghost use Rattle.exact.specs.Text.{text};
 ghost use Rattle.report.specs.Decimal.{digits, signed};
 ghost use Rattle.report.specs.Fields.{field_text};
-ghost use Rattle.report.specs.Line.{line, refusal_line, Written};
+ghost use Rattle.report.specs.Line.{line, refusal_line, Written, Added};
 
 use fixed_point::Signed;
 use itoa::Buffer;
@@ -65,6 +65,25 @@ fn put_field(out: &mut [u8], field: Field) -> usize
 {
     let at = put_bytes(out, b" ");
     at + put_text(&mut out[at..], field)
+}
+
+// A space and a number with its sign after the first `at` bytes.
+pub fn add_value(out: &mut [u8], at: usize, value: Signed) -> usize
+    requires { at + 22 ≤ length out.old }
+    ensures value { Added out.old at (text " " ++ signed value) result out.new }
+    ensures short { result ≤ at + 22 }
+{
+    at + put_field(&mut out[at..], Field::Number(value))
+}
+
+// The same for a number that has no sign.
+pub fn add_number(out: &mut [u8], at: usize, n: u64) -> usize
+    requires { at + 22 ≤ length out.old }
+    ensures number { Added out.old at (text " " ++ digits n) result out.new }
+    ensures short { result ≤ at + 22 }
+{
+    let value = Signed { plus: n, minus: 0 };
+    add_value(out, at, value)
 }
 
 // A line with a name and fields, as `(rest 451)` or `(ratio none)`.

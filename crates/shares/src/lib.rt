@@ -2,6 +2,7 @@
 #![tactic(auto)]
 
 ghost use Rattle.std.specs.Prelude.{◌≡◌, ◌≤◌};
+ghost use Rattle.loan_charge.specs.Tables.{exponentials};
 ghost use Rattle.loan_charge.specs.CreditFactor.{RatesInRange};
 ghost use Rattle.figures.specs.Sums.{zero_money, zero_signed, money_of};
 ghost use Rattle.book_model.specs.Ranges.{LoanRanges, AdjustmentRanges, DerivativeRanges, AssetRanges};
@@ -127,7 +128,7 @@ fn factor(h: Header, score: Score, rates: &Rates) -> u64
 // A loan whose property value is adjusted by `a`.
 // Kept: `LoanRanges l` is asked and is no invariant of Loan, since `Content` holds loans out of range (definitions content_of, line_for).
 pub fn loan(h: Header, l: Loan, a: Adjustment, exps: &Exponentials, rates: &Rates) -> Sums
-    requires { LoanRanges l × AdjustmentRanges a × RatesInRange rates.now }
+    requires { LoanRanges l × AdjustmentRanges a × (exps.now ≡ exponentials) × RatesInRange rates.now }
     ensures { result ≡ share_with (under h rates.now) a l }
 {
     let inputs = LoanInputs {

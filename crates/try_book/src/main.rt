@@ -6,7 +6,7 @@
 // nothing; `j` joins the copy kept and the book, which becomes what joining gave.
 #![tactic(auto)]
 
-ghost use Rattle.std.specs.Prelude.{◌≤◌, length};
+ghost use Rattle.std.specs.Prelude.{◌≡◌, ◌≤◌, length};
 ghost use Rattle.book_model.specs.Calls.{SoundBook, Sound};
 ghost use Rattle.book_model.specs.JoiningLaws.{without_marks};
 
@@ -15,6 +15,7 @@ use line_bytes::newlines::line_end;
 use line_forms::Refusal;
 use sheet_file::Room;
 use std::io::Print;
+use std::mem::swap;
 
 // The calls are read at once, at most so many bytes.
 const INPUT: usize = 327680;
@@ -94,33 +95,36 @@ fn close_cells(out: &impl Print, open_book: &OpenBook, digits: &[u8]) {
     print_closing(out, "t", closed, &buffer);
 }
 
+// Copies the book, of which marks do not count.
+fn keep(open_book: &OpenBook, kept: &mut OpenBook)
+    ensures { without_marks kept.new ≡ without_marks open_book.now }
+{
+    book::copy_unmarked(kept, open_book);
+}
+
 // Exchanges the book and the copy kept, of which marks do not count.
 fn exchange(open_book: &mut OpenBook, kept: &mut OpenBook)
-    requires { Sound open_book.old × Sound (without_marks kept.old) }
-    ensures { Sound open_book.new × Sound (without_marks kept.new) }
+    ensures book { open_book.new ≡ without_marks kept.old }
+    ensures kept { without_marks kept.new ≡ without_marks open_book.old }
 {
-    let before = *open_book;
-    *open_book = *kept;
-    *kept = before;
+    swap(&mut open_book.book, &mut kept.book);
+    swap(&mut open_book.rates, &mut kept.rates);
+    swap(&mut open_book.cells, &mut kept.cells);
+    swap(&mut open_book.index, &mut kept.index);
     marks::clear(&mut open_book.marks);
 }
 
-// Joins the copy kept and the book, which becomes what joining gave. That is made in a set of its own, of ones before, so that what is not
-// written shows.
-fn join(open_book: &mut OpenBook, kept: &OpenBook) -> Result<(), Refusal>
+// Joins the copy kept and the book, which becomes what joining gave: that of a second book, lent for it, which takes the book's place. What
+// joining is to write is of ones before, so that what is not written shows.
+fn join(open_book: &mut OpenBook, kept: &OpenBook, second: &mut OpenBook) -> Result<(), Refusal>
     requires { Sound open_book.old × Sound (without_marks kept.now) }
     ensures { Sound open_book.new }
 {
-    let mut joined = OpenBook {
-        book: open_book.book,
-        rates: [1; loan_charge::credit::RATES],
-        cells: [1; cell_report::PLACES],
-        index: [1; house_index::PLACES],
-        marks: open_book.marks,
-    };
-    let answer = joining::join(&mut joined, kept, open_book);
-    *open_book = joined;
-    answer
+    book::copy_unmarked(second, open_book);
+    open_book.rates = [1; loan_charge::credit::RATES];
+    open_book.cells = [1; cell_report::PLACES];
+    open_book.index = [1; house_index::PLACES];
+    joining::join(open_book, kept, second)
 }
 
 // One call on the book or on the copy kept; `numbers` are the sheet's.
@@ -128,6 +132,7 @@ fn call(
     out: &impl Print,
     open_book: &mut OpenBook,
     kept: &mut OpenBook,
+    second: &mut OpenBook,
     numbers: &[u8],
     kind: u8,
     rest: &[u8],
@@ -140,9 +145,9 @@ fn call(
         b's' => print_answer(out, "s", open_sheet(open_book, rest, numbers)),
         b'f' => print_answer(out, "f", book::feed(open_book, rest)),
         b't' => close_cells(out, open_book, rest),
-        b'k' => *kept = *open_book,
+        b'k' => keep(open_book, kept),
         b'x' => exchange(open_book, kept),
-        b'j' => print_answer(out, "j", join(open_book, kept)),
+        b'j' => print_answer(out, "j", join(open_book, kept, second)),
         _ => close(out, &open_book.book, rest),
     }
 }
@@ -151,6 +156,7 @@ fn call(
 fn call_all(out: &impl Print, input: &[u8]) {
     let mut open_book = book::unopened();
     let mut kept = open_book;
+    let mut second = open_book;
     let mut numbers = &input[0..0];
     // Kept: a position and no `for` over `split`, since the goal for that iterator, where a loop has an invariant, has no type that the check accepts.
     let mut at = 0;
@@ -162,7 +168,15 @@ fn call_all(out: &impl Print, input: &[u8]) {
                 numbers = rest;
                 tell_numbers(out, rest);
             }
-            Some((kind, rest)) => call(out, &mut open_book, &mut kept, numbers, *kind, rest),
+            Some((kind, rest)) => call(
+                out,
+                &mut open_book,
+                &mut kept,
+                &mut second,
+                numbers,
+                *kind,
+                rest,
+            ),
         }
         at = end + 1;
     }

@@ -2,6 +2,9 @@
 // lies outside.
 #![tactic(auto)]
 
+ghost use Rattle.std.specs.Prelude.{◌≡◌};
+ghost use Rattle.exponential.specs.Table.{exponentials};
+
 use cases::{Cases, Trial};
 use exponential::Exponentials;
 use std::io::Print;
@@ -11,6 +14,7 @@ use std::io::Print;
 struct Exponential<'a, P> {
     out: &'a P,
     table: &'a Exponentials,
+    ghost listed: { table.now ≡ exponentials },
 }
 
 impl<P: Print> Trial for Exponential<'_, P> {

@@ -4,7 +4,8 @@
 // 2 scored number age aged loans unscored, and m
 #![tactic(auto)]
 
-ghost use Rattle.std.specs.Prelude.{◌≤◌, length};
+ghost use Rattle.std.specs.Prelude.{◌≡◌, ◌≤◌, length};
+ghost use Rattle.loan_charge.specs.Tables.{exponentials};
 
 use cases::{Cases, Trial};
 use fixed_point::Signed;
@@ -19,6 +20,7 @@ struct Charges<'a, P> {
     out: &'a P,
     table: &'a Exponentials,
     rates: &'a Rates,
+    ghost listed: { table.now ≡ exponentials },
 }
 
 impl<P: Print> Trial for Charges<'_, P> {
@@ -37,6 +39,7 @@ impl<P: Print> Trial for Charges<'_, P> {
 
 // A loan and the ranges of its two numbers.
 fn is_charge_within(out: &impl Print, cases: &mut Cases, table: &Exponentials) -> bool
+    requires { table.now ≡ exponentials }
     ensures { length cases.new.rest.now ≤ length cases.old.rest.now }
 {
     let loan = read_loan(cases);
@@ -67,7 +70,9 @@ fn read_loan(cases: &mut Cases) -> LoanInputs
 }
 
 // A case out of the layer's range has an answer that lies outside any range of numbers.
-fn charge_of(l: LoanInputs, table: &Exponentials) -> LoanCharge {
+fn charge_of(l: LoanInputs, table: &Exponentials) -> LoanCharge
+    requires { table.now ≡ exponentials }
+{
     let has_ratio = (1 <= l.over) & (l.over <= 20000000000000000) & (l.balance <= 200000000);
     let has_months = (1 <= l.months) & (l.months <= 480);
     if has_ratio & has_months & (l.factor <= 300000000000000000) {

@@ -14,7 +14,7 @@ loan-share-requires c =
     let ranged : AdjustmentRanges c.adjustment-a.result =
     ranges c.args.open_book.now c.args.l c.loan_beyond.ensures c.if-loan_beyond.false c.adjustment-a.ensures
     c.is_lacking.ensures c.if-is_lacking.false c.requires.0 in
-    (c.requires.1, ranged, c.requires.0.rates)
+    (c.requires.1, ranged, c.requires.2, c.requires.0.rates)
 
 pub add_cell-requires : goal.add_cell-requires
 add_cell-requires c =

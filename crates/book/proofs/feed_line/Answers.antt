@@ -17,7 +17,7 @@ use Rattle.book.proofs.feed_line.Goals as goal
 
 pub add_loan-requires : goal.add_loan-requires
 add_loan-requires c =
-    (c.requires.0, subst (λ (l : Line). Ranged (line_content l)) c.in-Loan.is c.requires.1)
+    (c.requires.0, subst (λ (l : Line). Ranged (line_content l)) c.in-Loan.is c.requires.1, c.requires.2)
 
 pub policy-requires : goal.policy-requires
 policy-requires c =

@@ -7,11 +7,11 @@ use Rattle.book.proofs.feed_with.Goals as goal
 
 pub feed_line-requires : goal.feed_line-requires
 feed_line-requires c =
-    (c.requires, rw c.read_line-read.ensures.equation (ranged c.args.line.now))
+    (c.requires.0, rw c.read_line-read.ensures.equation (ranged c.args.line.now), c.requires.1)
 
 pub returns-in_default : goal.returns-in_default
 returns-in_default c =
-    let answer = fed c.args.open_book.now c.args.line.now c.read_line-read.ensures.equation c.requires c.feed_line.ensures in
+    let answer = fed c.args.open_book.now c.args.line.now c.read_line-read.ensures.equation c.requires.0 c.feed_line.ensures in
     record {
       equation = answer.0;
       sound = answer.1;
@@ -20,7 +20,7 @@ returns-in_default c =
 pub returns : goal.returns
 returns c =
     let s = c.args.open_book.now in
-    let answer = fed s c.args.line.now c.read_line-read.ensures.equation c.requires
+    let answer = fed s c.args.line.now c.read_line-read.ensures.equation c.requires.0
     (fed-refused s c.in-Refusal.refusal ∙ ap (feeding_line s) (sym c.in-Refusal.is)) in
     record {
       equation = answer.0;

@@ -19,6 +19,7 @@ join_all-requires c = (
   (parts _ (sym c.reports.ensures ∙ search rules)).2,
   omega (arith, c.requires.0),
   omega (arith, c.requires.1),
+  c.table-exps.ensures,
 )
 
 pub returns : goal.returns

@@ -7,4 +7,4 @@ use Rattle.driver.proofs.finish.Goals as goal
 pub returns-clause-whole : goal.returns-clause-whole
 returns-clause-whole c =
     let a = c.args in
-    (prints a.asked (reading_of a.run.now a.sheet.now a.open_book.now) (rw (← c.end_input-last.ensures.equation) c.put_answer.ensures)).1
+    (prints a.asked (reading_of a.run a.sheet.now a.open_book.now) (rw (← c.end_input-last.ensures.equation) c.put_answer.ensures)).1

@@ -36,7 +36,7 @@ returns-then-size-end c =
 pub end_line-requires : goal.end_line-requires
 end_line-requires c =
     let l = c.loop-i in
-    (l.invariant.1, omega (arith, c.requires.1))
+    (l.invariant.1, omega (arith, c.requires.1), c.requires.2)
 
 pub overflow_add-i : goal.overflow_add-i
 overflow_add-i c =

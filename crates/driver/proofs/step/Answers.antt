@@ -33,6 +33,7 @@ end_held-requires c =
         unended = held_more a.run.now a.sheet.now a.open_book.now a.chunk.now r c.is_empty.ensures.few e.result e.ensures.equation c.hold.new.self c.hold.ensures;
       },
       omega (arith, r.number, c.requires.1),
+      c.requires.2,
     )
 
 pub returns-clause-equation : goal.returns-clause-equation

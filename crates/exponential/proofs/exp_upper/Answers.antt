@@ -10,11 +10,11 @@ use Rattle.exponential.proofs.exp_upper.Goals as goal
 pub lower-requires : goal.lower-requires
 lower-requires c =
     let x = c.min-x.result in (
-      rw c.args.table.now.listed (entry-bounded (x / 4294967296) (omega (arith, c.min-x.ensures))),
+      rw c.requires (entry-bounded (x / 4294967296) (omega (arith, c.min-x.ensures))),
       omega (arith, c.decrease_of.ensures.1),
     )
 
 pub returns : goal.returns
 unfolding exp_upper_lem exp_within
 returns c =
-    rw (c.lower.ensures, c.decrease_of.ensures.0, c.args.table.now.listed, c.min-x.ensures) refl
+    rw (c.lower.ensures, c.decrease_of.ensures.0, c.requires, c.min-x.ensures) refl

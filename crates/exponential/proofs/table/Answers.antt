@@ -4,7 +4,7 @@ use Rattle.exponential.proofs.table.Goals as goal
 
 -- `exponential::table` meets its contract: the constant is the list. Assumes nothing.
 
-pub invariant_of-result : goal.invariant_of-result
+pub returns : goal.returns
 unfolding exponentials
-invariant_of-result c =
-    record { listed = refl }
+returns c =
+    refl

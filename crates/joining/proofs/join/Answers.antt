@@ -32,7 +32,7 @@ returns c =
     let first : State = without_marks c.args.first.now in
     let second : State = without_marks c.args.second.now in
     let answer = gives-joined first second c.requires.0 c.requires.1 (sym c.may_join.ensures ∙ search rules)
-    (λ i. state_at (c.joined_book-joined.ensures i) first.rates (c.added_cells-joined.ensures i) first.index (c.reset.ensures i).marks) in
+    (λ i. state_at (c.joined_book-joined.ensures i) first.rates (c.added_cells-joined.ensures i) first.index (c.clear.ensures i)) in
     record {
       equation = answer.0;
       sound = answer.1;

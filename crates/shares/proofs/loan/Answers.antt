@@ -18,7 +18,7 @@ overflow_mul-inputs-2 c =
 pub charge-charge-requires : goal.charge-charge-requires
 charge-charge-requires c =
     let t : Terms = under c.args.h c.args.rates.now in
-    rw c.factor.ensures (inputs-chargeable t c.args.a c.args.l (rates-chargeable t c.requires.2 _) c.requires.0 c.requires.1)
+    (rw c.factor.ensures (inputs-chargeable t c.args.a c.args.l (rates-chargeable t c.requires.3 _) c.requires.0 c.requires.1), c.requires.2)
 
 pub returns : goal.returns
 unfolding share_with numbers_with kind_counts

@@ -5,8 +5,8 @@ use Rattle.cases.proofs.Cases.number.Given as goal
 
 abbrev pub invariant-loop-b : goal.invariant-loop-b
 invariant-loop-b l =
-    (number_from l.value l.self.rest.now ≡ number_in l.initial.self.rest.now)
-    × (after_number l.self.rest.now ≡ after_number l.initial.self.rest.now)
+    (number_from l.value l.rest ≡ number_in l.initial.rest)
+    × (after_number l.rest ≡ after_number l.initial.rest)
 
 abbrev pub decreases-loop-b : goal.decreases-loop-b
-decreases-loop-b l = length l.self.rest.now
+decreases-loop-b l = length l.rest

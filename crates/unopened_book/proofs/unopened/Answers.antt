@@ -1,7 +1,7 @@
 use mathlib.Core.Path.{refl}
 use Rattle.book_model.specs.Cells.{empty_cells}
 use Rattle.book_model.specs.HouseIndex.{empty_index}
-use Rattle.book.proofs.unopened.Goals as goal
+use Rattle.unopened_book.proofs.unopened.Goals as goal
 
 -- `unopened` meets its contract.
 
